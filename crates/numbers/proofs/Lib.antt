@@ -1,0 +1,5 @@
+pub mod Sums
+pub mod Lists
+pub mod Integers
+pub mod Turns
+pub mod Parity

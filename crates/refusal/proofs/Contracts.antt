@@ -1,0 +1,43 @@
+-- What follows from a contract of the common shape: no second answer and no second slice, and what holds when it answers or refuses.
+use Prim.Native.Nat.{ℕ}
+use native.Mathlib.Omega.{arith}
+use mathlib.Core.Path.{_≡_, refl, sym, ap, _∙_}
+use mathlib.Core.List.{List, _++_}
+use lib.ListN.{length, drop}
+use Rattle.refusal.specs.declared.Refusal.{Refusal}
+use Rattle.refusal.specs.Checks.{Outcome, passed, refused, settle}
+use Rattle.refusal.specs.Contract.{Said, values, refuses, saidOf, Says, Leaves, Meets}
+
+-- no two answers say the same
+abbrev pub Distinct : {Answer : Type 0} → (Answer → Said) → Type 0
+Distinct {Answer} said = (a b : Answer) → said a ≡ said b → a ≡ b
+
+same-refusal : (r s : Refusal) → saidOf r ≡ saidOf s → r ≡ s
+same-refusal r s e =
+    let n : r .number ≡ s .number = cc in
+    let d : r .side ≡ s .side = cc in
+    let p : r .position ≡ s .position = cc in
+    λ i. record { number = n i; side = d i; position = p i }
+
+-- a refusal that is returned is the one that the checks give
+pub says-refused : (o : Outcome) (vs : List ℕ) (r : Refusal) → saidOf r ≡ settle o saidOf (values vs) → o ≡ refused r
+says-refused passed vs r e = let z : _≡_ {A = ℕ} 0 1 = cc in absurd (omega arith)
+says-refused (refused s) vs r e = ap refused (sym (same-refusal r s e))
+
+-- values that are returned are those of the contract, and every check passed
+pub says-values : (o : Outcome) (vs ws : List ℕ) → values ws ≡ settle o saidOf (values vs) → (o ≡ passed) × (ws ≡ vs)
+says-values passed vs ws e = (refl, cc)
+says-values (refused s) vs ws e = let z : _≡_ {A = ℕ} 0 1 = cc in absurd (omega arith)
+
+module _ {Answer Entry : Type 0} (said : Answer → Said) (o : Outcome) (vs : List ℕ) (result before : List Entry) where
+  -- 01, "no second answer would satisfy it", nor any second content of the lent slice
+  pub one-answer : Distinct said → (a b : Answer) (x y : List Entry) → Meets said o vs result before a x → Meets said o vs result before b y → (a ≡ b) × (x ≡ y)
+  one-answer d a b x y p q = (d a b (p .says ∙ sym (q .says)), p .leaves ∙ sym (q .leaves))
+
+  -- where a check refuses, the answer is that refusal and the slice is as it was
+  pub when-refused : (a : Answer) (x : List Entry) (r : Refusal) → o ≡ refused r → Meets said o vs result before a x → (said a ≡ saidOf r) × (x ≡ before)
+  when-refused a x r e m = (rw e at (m .says), rw e at (m .leaves))
+
+  -- where every check passes, the answer is the values and the slice begins with the result
+  pub when-passed : (a : Answer) (x : List Entry) → o ≡ passed → Meets said o vs result before a x → (said a ≡ values vs) × (x ≡ result ++ drop (length result) before)
+  when-passed a x e m = (rw e at (m .says), rw e at (m .leaves))

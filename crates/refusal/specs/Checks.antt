@@ -1,0 +1,44 @@
+-- 01, "Numbered refusals, in order of checking": a list of checks, and the first of them that holds.
+use Prim.Native.Nat.{ℕ}
+use mathlib.Core.Bool.{Bool, true, false, not}
+use mathlib.Core.List.{List, [], _∷_}
+use lib.Dec.{ltb, eqb}
+use Rattle.refusal.specs.declared.Refusal.{Refusal}
+
+-- a row's condition: one number is less than, the same as, or other than another
+pub data Test : Type 0 where
+  less : ℕ → ℕ → Test
+  same : ℕ → ℕ → Test
+  other : ℕ → ℕ → Test
+
+abbrev pub holds : Test → Bool
+holds (less a b) = ltb a b
+holds (same a b) = eqb a b
+holds (other a b) = not (eqb a b)
+
+-- a row of the table: the refusal that is given when the test holds
+pub record Check : Type 0 where
+  pub when : Test
+  pub gives : Refusal
+
+abbrev pub check : Test → Refusal → Check
+check t r = record { when = t; gives = r }
+
+-- what a call's checks come to
+pub data Outcome : Type 0 where
+  passed : Outcome
+  refused : Refusal → Outcome
+
+abbrev pub ifHolds : Bool → Outcome → Outcome → Outcome
+ifHolds true yes₁ no₁ = yes₁
+ifHolds false yes₁ no₁ = no₁
+
+-- "in order of checking": the first row whose test holds, else passed
+unfoldable pub outcome : List Check → Outcome
+outcome [] = passed
+outcome (c ∷ cs) = ifHolds (holds (c .when)) (refused (c .gives)) (outcome cs)
+
+-- what follows from an outcome: one thing on a refusal, another where all passed
+abbrev pub settle {ℓ} : {A : Type ℓ} → Outcome → (Refusal → A) → A → A
+settle passed onRefusal onPass = onPass
+settle (refused r) onRefusal onPass = onRefusal r

@@ -1,0 +1,50 @@
+-- 01, "Numbered refusals": the numbers by name, and a refusal of each kind.
+use Prim.Native.Nat.{ℕ}
+use Rattle.refusal.specs.declared.Refusal.{Refusal}
+
+abbrev pub VARS : ℕ
+VARS = 1
+
+abbrev pub TABLE : ℕ
+TABLE = 2
+
+abbrev pub PAD : ℕ
+PAD = 3
+
+abbrev pub SHORT : ℕ
+SHORT = 4
+
+abbrev pub MARK : ℕ
+MARK = 5
+
+abbrev pub VERSION : ℕ
+VERSION = 6
+
+abbrev pub WIRES : ℕ
+WIRES = 7
+
+abbrev pub COUNT : ℕ
+COUNT = 8
+
+abbrev pub LENGTH : ℕ
+LENGTH = 9
+
+abbrev pub GATE : ℕ
+GATE = 10
+
+abbrev pub STATE : ℕ
+STATE = 11
+
+abbrev pub UNLIKE : ℕ
+UNLIKE = 12
+
+abbrev pub ROOM : ℕ
+ROOM = 13
+
+-- "A refusal returns its number, the side .., and the position of the first bad gate (10 only, else 0)"
+abbrev pub refusalAt : ℕ → ℕ → ℕ → Refusal
+refusalAt n s p = record { number = n; side = s; position = p }
+
+-- a refusal of the first or only input, with no gate to name
+abbrev pub refusal : ℕ → Refusal
+refusal n = refusalAt n 0 0
