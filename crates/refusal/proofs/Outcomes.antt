@@ -4,27 +4,31 @@ use mathlib.Core.Path.{_≡_, refl, ap, _∙_}
 use mathlib.Core.Logic.{_⊎_, inl, inr}
 use mathlib.Core.Bool.{Bool, true, false, not}
 use mathlib.Core.List.{List, [], _∷_, _++_}
-use borrow.Author.Tests.{lt-ltb, le-ltb, eq-eqb, ne-eqb}
+use borrow.Author.Tests.{lt-ltb, le-ltb, le-leb, lt-leb, eq-eqb, ne-eqb}
 use Rattle.refusal.specs.declared.Refusal.{Refusal}
-use Rattle.refusal.specs.Checks.{Test, less, same, other, holds, Check, Outcome, passed, refused, ifHolds, outcome, settle}
+use Rattle.refusal.specs.Checks.{Test, less, atLeast, same, other, holds, Check, Outcome, passed, refused, ifHolds, outcome, settle}
 
 abbrev pub Holds : Test → Type 0
 Holds (less a b) = a < b
+Holds (atLeast a b) = b ≤ a
 Holds (same a b) = a ≡ b
 Holds (other a b) = a ≡ b → ⊥
 
 abbrev pub Fails : Test → Type 0
 Fails (less a b) = b ≤ a
+Fails (atLeast a b) = a < b
 Fails (same a b) = a ≡ b → ⊥
 Fails (other a b) = a ≡ b
 
 pub holds-true : (t : Test) → Holds t → holds t ≡ true
 holds-true (less a b) h = lt-ltb a b h
+holds-true (atLeast a b) h = le-leb b a h
 holds-true (same a b) h = eq-eqb a b h
 holds-true (other a b) h = ap not (ne-eqb a b h)
 
 pub holds-false : (t : Test) → Fails t → holds t ≡ false
 holds-false (less a b) h = le-ltb a b h
+holds-false (atLeast a b) h = lt-leb b a h
 holds-false (same a b) h = ne-eqb a b h
 holds-false (other a b) h = ap not (eq-eqb a b h)
 

@@ -2,17 +2,19 @@
 use Prim.Native.Nat.{ℕ}
 use mathlib.Core.Bool.{Bool, true, false, not}
 use mathlib.Core.List.{List, [], _∷_}
-use lib.Dec.{ltb, eqb}
+use lib.Dec.{ltb, leb, eqb}
 use Rattle.refusal.specs.declared.Refusal.{Refusal}
 
--- a row's condition: one number is less than, the same as, or other than another
+-- a row's condition: one number is less than, at least, the same as, or other than another
 pub data Test : Type 0 where
   less : ℕ → ℕ → Test
+  atLeast : ℕ → ℕ → Test
   same : ℕ → ℕ → Test
   other : ℕ → ℕ → Test
 
 abbrev pub holds : Test → Bool
 holds (less a b) = ltb a b
+holds (atLeast a b) = leb b a
 holds (same a b) = eqb a b
 holds (other a b) = not (eqb a b)
 
