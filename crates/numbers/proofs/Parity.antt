@@ -30,6 +30,29 @@ dot-block n a b r s hr hs =
     ap (λ (m : ℕ). ones m % 2) (and-block n a b r s hr hs) ∙ ap (_% 2) (ones-cat n (bitAnd a b) (bitAnd r s) (and-lt n r s hr hs))
     ∙ add-mod (ones (bitAnd a b)) (ones (bitAnd r s)) 2
 
+module _ (n k x : ℕ) (hk : k < 2 ^ n) (hx : x < 2 ^ n) where
+  by-block : (a b d : ℕ) → dot a b ≡ d → dot (a * 2 ^ n + k) (b * 2 ^ n + x) ≡ (d + dot k x) % 2
+  by-block a b d e = dot-block n a b k x hk hx ∙ ap (λ (m : ℕ). (m + dot k x) % 2) e
+
+  at-low : (m : ℕ) → 0 * 2 ^ n + m ≡ m
+  at-low m = omega arith
+
+  at-high : (m : ℕ) → 1 * 2 ^ n + m ≡ 2 ^ n + m
+  at-high m = omega arith
+
+  -- of two numbers with one more bit, that bit counts only where both have it
+  pub dot-low-high : dot k (2 ^ n + x) ≡ dot k x
+  unfolding dot ones onesIn
+  dot-low-high = ap₂ dot (sym (at-low k)) (sym (at-high x)) ∙ by-block 0 1 0 refl ∙ omega (arith, dot-below k x)
+
+  pub dot-high-low : dot (2 ^ n + k) x ≡ dot k x
+  unfolding dot ones onesIn
+  dot-high-low = ap₂ dot (sym (at-high k)) (sym (at-low x)) ∙ by-block 1 0 0 refl ∙ omega (arith, dot-below k x)
+
+  pub dot-high-high : dot (2 ^ n + k) (2 ^ n + x) ≡ (1 + dot k x) % 2
+  unfolding dot ones onesIn
+  dot-high-high = ap₂ dot (sym (at-high k)) (sym (at-high x)) ∙ by-block 1 1 1 refl
+
 bits-and : (a b : ℕ) → a < 2 → b < 2 → min a b ≡ a * b
 bits-and zero b h k = omega arith
 bits-and (suc zero) b h k = omega arith

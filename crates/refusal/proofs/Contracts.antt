@@ -5,8 +5,9 @@ use mathlib.Core.Path.{_≡_, refl, sym, ap, _∙_}
 use mathlib.Core.List.{List, _++_}
 use lib.ListN.{length, drop}
 use Rattle.refusal.specs.declared.Refusal.{Refusal}
-use Rattle.refusal.specs.Checks.{Outcome, passed, refused, settle}
+use Rattle.refusal.specs.Checks.{Check, Outcome, passed, refused, outcome, settle}
 use Rattle.refusal.specs.Contract.{Said, values, refuses, saidOf, Says, Leaves, Meets}
+use Rattle.refusal.proofs.Outcomes.{Reaches, reaches}
 
 -- no two answers say the same
 abbrev pub Distinct : {Answer : Type 0} → (Answer → Said) → Type 0
@@ -28,6 +29,13 @@ says-refused (refused s) vs r e = ap refused (sym (same-refusal r s e))
 pub says-values : (o : Outcome) (vs ws : List ℕ) → values ws ≡ settle o saidOf (values vs) → (o ≡ passed) × (ws ≡ vs)
 says-values passed vs ws e = (refl, cc)
 says-values (refused s) vs ws e = let z : _≡_ {A = ℕ} 0 1 = cc in absurd (omega arith)
+
+-- what a function shows at a return: the refusal of the first check that holds, or the values where none does
+pub refused-by : (cs : List Check) (vs : List ℕ) {s r : Refusal} → s ≡ r → Reaches cs (refused r) → saidOf s ≡ settle (outcome cs) saidOf (values vs)
+refused-by cs vs {s} {r} e h = rw (reaches cs (refused r) h) (ap saidOf e)
+
+pub all-passed : (cs : List Check) {vs ws : List ℕ} → ws ≡ vs → Reaches cs passed → values ws ≡ settle (outcome cs) saidOf (values vs)
+all-passed cs e h = rw (reaches cs passed h) (ap values e)
 
 module _ {Answer Entry : Type 0} (said : Answer → Said) (o : Outcome) (vs : List ℕ) (result before : List Entry) where
   -- 01, "no second answer would satisfy it", nor any second content of the lent slice

@@ -1,0 +1,5 @@
+pub mod Words
+pub mod Halves
+pub mod Mixing
+pub mod Bounds
+pub mod Recursion

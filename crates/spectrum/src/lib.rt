@@ -1,0 +1,92 @@
+// Document 01, "Spectrum": the Walsh-Hadamard spectrum of a truth table.
+use refusal::Refusal;
+use table::Checked;
+ghost use mathlib.Core.Path.{_≡_};
+ghost use mathlib.Core.List.{[], _∷_};
+ghost use Prim.Native.Nat.{ℕ, _^_, _+_, _<_, _≤_};
+ghost use lib.ListN.{length, set};
+ghost use lib.IntN.{pos, natAbs, _+ℤ_, _-ℤ_};
+ghost use Rattle.numbers.specs.Sums.{list};
+ghost use Rattle.numbers.specs.Turn.{flip};
+ghost use Rattle.refusal.specs.Checks.{outcome};
+ghost use Rattle.refusal.specs.Contract.{Meets};
+ghost use Rattle.table.specs.Table.{valueAt};
+ghost use Rattle.spectrum.specs.Spectrum.{spectrumOf, spectrumChecks, transformedSays};
+ghost use Rattle.spectrum.specs.Transform.{entry, transformed, mixed, Tame, Paired};
+
+pub enum Transformed {
+    Entries(usize),
+    Refused(Refusal),
+}
+
+// Puts s_0 to s_(2^n - 1) at the front of out and answers 2^n.
+pub fn spectrum(n: u8, table: &[u8], out: &mut [i32]) -> Transformed
+    ensures { λ r. ⌜ Meets transformedSays (outcome (spectrumChecks n (now (table .entry)) (length (now (out .entry))))) (2 ^ n ∷ []) (spectrumOf n (now (table .entry))) (now (out .entry)) r (now (out .exit)) ⌝ }
+{
+    if let Checked::Refused(r) = table::check(n, table) {
+        return Transformed::Refused(r);
+    }
+    let entries = numbers::power(n);
+    if out.len() < entries {
+        return Transformed::Refused(refusal::by(refusal::ROOM));
+    }
+    write_signs(table, &mut out[..entries]);
+    transform(&mut out[..entries]);
+    Transformed::Entries(entries)
+}
+
+// Entry x becomes +1, or -1 where f(x) is 1.
+fn write_signs(table: &[u8], out: &mut [i32])
+    ensures { λ _. ⌜ now (out .exit) ≡ list (length (now (out .entry))) (λ x. flip (valueAt (now (table .entry)) x) (pos 1)) ⌝ }
+{
+    let mut x: usize = 0;
+    while x < out.len() {
+        out[x] = sign(table::value(table, x));
+        x += 1;
+    }
+}
+
+fn sign(value: u8) -> i32
+    requires { ⌜ value < 2 ⌝ }
+    ensures { λ r. ⌜ r ≡ flip value (pos 1) ⌝ }
+{
+    if value == 0 { 1 } else { -1 }
+}
+
+// H_n by halves: each half is transformed, then the two are added and subtracted.
+fn transform(v: &mut [i32])
+    requires { ⌜ Tame (now v) ⌝ }
+    ensures { λ _. ⌜ ((n : ℕ) → length (now (v .entry)) ≡ 2 ^ n → now (v .exit) ≡ transformed n (now (v .entry))) ⌝ }
+{
+    let half = v.len() / 2;
+    if 0 < half {
+        transform(&mut v[..half]);
+        transform(&mut v[half..]);
+        mix(v, half);
+    }
+}
+
+// The sums of the halves' entries into the first half, their differences into the second.
+fn mix(v: &mut [i32], half: usize)
+    requires { ⌜ half + half ≡ length (now v) ⌝ }
+    requires { ⌜ Paired half (now v) ⌝ }
+    ensures { λ _. ⌜ now (v .exit) ≡ mixed half (now (v .entry)) ⌝ }
+{
+    let mut i: usize = 0;
+    while i < half {
+        mix_pair(v, i, half + i);
+        i += 1;
+    }
+}
+
+fn mix_pair(v: &mut [i32], i: usize, j: usize)
+    requires { ⌜ i < length (now v) ⌝ }
+    requires { ⌜ j < length (now v) ⌝ }
+    requires { ⌜ natAbs (entry (now v) i) + natAbs (entry (now v) j) ≤ 2147483647 ⌝ }
+    ensures { λ _. ⌜ now (v .exit) ≡ set (set (now (v .entry)) i (entry (now (v .entry)) i +ℤ entry (now (v .entry)) j)) j (entry (now (v .entry)) i -ℤ entry (now (v .entry)) j) ⌝ }
+{
+    let a = v[i];
+    let b = v[j];
+    v[i] = a + b;
+    v[j] = a - b;
+}

@@ -1,0 +1,66 @@
+// Document 01, "Numbers and conventions": packed truth tables, and refusals 1 to 3.
+use refusal::Refusal;
+ghost use mathlib.Core.Path.{_≡_};
+ghost use mathlib.Core.List.{[]};
+ghost use Prim.Native.Nat.{_^_, _-_, _≤_, min};
+ghost use Rattle.refusal.specs.Checks.{outcome};
+ghost use Rattle.refusal.specs.Contract.{Says};
+ghost use Rattle.table.specs.Table.{valueAt, tableChecks, checkedSays};
+
+pub enum Checked {
+    Good,
+    Refused(Refusal),
+}
+
+// Whether `table` is the packed table of a function of n variables.
+pub fn check(n: u8, table: &[u8]) -> Checked
+    ensures { λ r. ⌜ Says checkedSays (outcome (tableChecks n (now (table .entry)))) [] r ⌝ }
+{
+    if n == 0 {
+        return Checked::Refused(refusal::by(refusal::VARS));
+    }
+    if 8 < n {
+        return Checked::Refused(refusal::by(refusal::VARS));
+    }
+    if table.len() != bytes(n) {
+        return Checked::Refused(refusal::by(refusal::TABLE));
+    }
+    let first = table[0];
+    if used(n) <= first as u16 {
+        return Checked::Refused(refusal::by(refusal::PAD));
+    }
+    Checked::Good
+}
+
+// f(x); 0 past the table's end.
+pub fn value(table: &[u8], x: usize) -> u8
+    ensures { λ r. ⌜ r ≡ valueAt (now (table .entry)) x ⌝ }
+{
+    let byte = x / 8;
+    if byte < table.len() {
+        (table[byte] >> (x % 8)) % 2
+    } else {
+        0
+    }
+}
+
+// The table's length.
+fn bytes(n: u8) -> usize
+    requires { ⌜ n ≤ 8 ⌝ }
+    ensures { λ r. ⌜ r ≡ 2 ^ (n - 3) ⌝ }
+{
+    if n < 3 { 1 } else { numbers::power(n - 3) }
+}
+
+// What the first byte is below where its unused bits are 0.
+fn used(n: u8) -> u16
+    requires { ⌜ n ≤ 8 ⌝ }
+    ensures { λ r. ⌜ r ≡ 2 ^ min (2 ^ n) 8 ⌝ }
+{
+    match n {
+        0 => 2,
+        1 => 4,
+        2 => 16,
+        _ => 256,
+    }
+}

@@ -1,0 +1,399 @@
+"""The test oracle: document 01 followed by brute force.
+
+A function that writes takes the room, the number of entries of the lent
+slice (None: enough), and returns the entries written at its front.
+"""
+
+from collections import namedtuple
+from math import gcd
+
+Cnot = namedtuple("Cnot", "control target")
+Phase = namedtuple("Phase", "wire angle")
+Held = namedtuple("Held", "position gate")
+Different = namedtuple("Different", "state first_end second_end phase")
+SAME = "same"
+
+
+# Numbered refusals, in order of checking
+
+VARS, TABLE, PAD, SHORT, MARK, VERSION, WIRES = 1, 2, 3, 4, 5, 6, 7
+COUNT, LENGTH, GATE, STATE, UNLIKE, ROOM = 8, 9, 10, 11, 12, 13
+
+
+class Refused(Exception):
+    def __init__(self, number, side=0, position=0):
+        super().__init__(number, side, position)
+        self.number, self.side, self.position = number, side, position
+
+
+def check_table(n, table):
+    if n == 0 or n > 8:
+        raise Refused(VARS)
+    if len(table) != table_length(n):
+        raise Refused(TABLE)
+    if n < 3 and table[0] >= 2 ** 2 ** n:
+        raise Refused(PAD)
+
+
+def check_room(room, length):
+    if room is not None and room < length:
+        raise Refused(ROOM)
+
+
+# Numbers and conventions
+
+def table_length(n):
+    return 1 if n <= 3 else 2 ** (n - 3)
+
+
+def f(table, x):
+    return table[x // 8] >> x % 8 & 1
+
+
+def ones(number):
+    return bin(number).count("1")
+
+
+# Spectrum
+
+def spectrum(n, table, room=None):
+    check_table(n, table)
+    check_room(room, 2 ** n)
+    return [sum(-1 if (f(table, x) + ones(k & x)) % 2 else 1 for x in range(2 ** n))
+            for k in range(2 ** n)]
+
+
+def theta(n, table):
+    return [s * 2 ** (14 - n) % 65536 for s in spectrum(n, table)]
+
+
+# The built circuit
+
+def flipped_bit(i, k):
+    """d_k for words of i bits."""
+    if k == 2 ** i - 1:
+        return i - 1
+    zeros = 0
+    while (k + 1) >> zeros & 1 == 0:
+        zeros += 1
+    return zeros
+
+
+def gray_words(i):
+    words = [0]
+    for k in range(2 ** i - 1):
+        words.append(words[k] ^ 1 << flipped_bit(i, k))
+    return words
+
+
+def construction(n, table):
+    angles = theta(n, table)
+    gates = [Phase(n, 16384)]
+    for i in range(n):
+        for k, v in enumerate(gray_words(i)):
+            gates.append(Phase(i, angles[2 ** i + v]))
+            if i > 0:
+                gates.append(Cnot(flipped_bit(i, k), i))
+    for k, v in enumerate(gray_words(n)):
+        gates.append(Phase(n, -angles[v] % 65536))
+        gates.append(Cnot(flipped_bit(n, k), n))
+    return gates
+
+
+def build(n, table, room=None):
+    check_table(n, table)
+    file = encode(n + 1, construction(n, table))
+    check_room(room, len(file))
+    return file
+
+
+# Circuit file
+
+def encode(w, gates):
+    file = b"PHG" + bytes([0, 1, w]) + len(gates).to_bytes(2, "big")
+    for gate in gates:
+        if isinstance(gate, Cnot):
+            file += bytes([1, gate.control, gate.target, 0])
+        else:
+            file += bytes([2, gate.wire]) + gate.angle.to_bytes(2, "big")
+    return file
+
+
+def decode(w, position, four):
+    kind, second, third, fourth = four
+    if kind == 1 and second < w and third < w and second != third and fourth == 0:
+        return Held(position, Cnot(second, third))
+    if kind == 2 and second < w:
+        return Held(position, Phase(second, third * 256 + fourth))
+    return None
+
+
+def parse(file, side=0):
+    """The wires and the gates of a file, or its refusal."""
+    if len(file) < 8:
+        raise Refused(SHORT, side)
+    if file[0:3] != b"PHG":
+        raise Refused(MARK, side)
+    if file[3] * 256 + file[4] != 1:
+        raise Refused(VERSION, side)
+    w = file[5]
+    if w == 0 or w > 10:
+        raise Refused(WIRES, side)
+    number = file[6] * 256 + file[7]
+    if number > 2048:
+        raise Refused(COUNT, side)
+    if len(file) != 8 + 4 * number:
+        raise Refused(LENGTH, side)
+    gates = []
+    for position in range(number):
+        start = 8 + 4 * position
+        held = decode(w, position, file[start:start + 4])
+        if held is None:
+            raise Refused(GATE, side, position)
+        gates.append(held.gate)
+    return w, gates
+
+
+def read(file, side=0):
+    w, gates = parse(file, side)
+    return w, len(gates)
+
+
+# Running, counting, folding
+
+def run_gates(gates, start):
+    state, total = start, 0
+    for gate in gates:
+        if isinstance(gate, Cnot):
+            if state >> gate.control & 1:
+                state ^= 1 << gate.target
+        elif state >> gate.wire & 1:
+            total = (total + gate.angle) % 65536
+    return state, total
+
+
+def run(file, start):
+    w, gates = parse(file)
+    if start >= 2 ** w:
+        raise Refused(STATE)
+    return run_gates(gates, start)
+
+
+def masks_met(w, gates):
+    """For each position the mask on the phase gate's wire there; None at a CNOT."""
+    held = [1 << i for i in range(w)]
+    met = []
+    for gate in gates:
+        if isinstance(gate, Cnot):
+            held[gate.target] ^= held[gate.control]
+            met.append(None)
+        else:
+            met.append(held[gate.wire])
+    return met
+
+
+def score(gates):
+    return sum(1 for gate in gates if isinstance(gate, Phase) and gate.angle != 0)
+
+
+def count(file):
+    w, gates = parse(file)
+    cnots = sum(1 for gate in gates if isinstance(gate, Cnot))
+    return cnots, len(gates) - cnots, score(gates)
+
+
+def fold_gates(w, gates):
+    met = masks_met(w, gates)
+    folded = []
+    for p, gate in enumerate(gates):
+        if isinstance(gate, Cnot):
+            folded.append(gate)
+            continue
+        an_earlier_phase_gate_met_this_mask = met[p] in met[:p]
+        if an_earlier_phase_gate_met_this_mask:
+            continue
+        group = [gates[q].angle for q in range(len(gates)) if met[q] == met[p]]
+        if sum(group) % 65536 != 0:
+            folded.append(Phase(gate.wire, sum(group) % 65536))
+    return folded
+
+
+def fold(file, room=None):
+    """The new file with the scores before and after."""
+    w, gates = parse(file)
+    folded = fold_gates(w, gates)
+    check_room(room, 8 + 4 * len(folded))
+    return encode(w, folded), score(gates), score(folded)
+
+
+# Coefficients and verdict
+
+def coefficients(w, gates):
+    met = masks_met(w, gates)
+    phases = [(met[p], gates[p].angle) for p in range(len(gates)) if met[p] is not None]
+    found = [0]
+    for S in range(1, 2 ** w):
+        total = sum(angle for mask, angle in phases if mask & S == S)
+        found.append((-2) ** (ones(S) - 1) * total % 65536)
+    return found
+
+
+def ideal(n, table, state):
+    x, y = state % 2 ** n, state >> n
+    return state, 32768 * f(table, x) * y
+
+
+def ideal_coefficients(n, table):
+    found = []
+    for S in range(2 ** (n + 1)):
+        inside = sum(1 for x in range(2 ** n) if f(table, x) == 1 and x & S == x)
+        found.append(32768 * inside % 65536 if S >> n & 1 else 0)
+    return found
+
+
+def verdict(w, first_run, second_run):
+    for state in range(2 ** w):
+        first_end, first_phase = first_run(state)
+        second_end, second_phase = second_run(state)
+        if (first_end, first_phase) != (second_end, second_phase):
+            return Different(state, first_end, second_end, (first_phase - second_phase) % 65536)
+    return SAME
+
+
+def difference(first, second):
+    return [(a - b) % 65536 for a, b in zip(first, second)]
+
+
+def compare(first, second, room=None):
+    """The verdict, by running every starting state, and the work entries."""
+    w, first_gates = parse(first, 0)
+    second_w, second_gates = parse(second, 1)
+    if w != second_w:
+        raise Refused(UNLIKE)
+    check_room(room, 2 ** w)
+    found = verdict(w, lambda x: run_gates(first_gates, x), lambda x: run_gates(second_gates, x))
+    return found, difference(coefficients(w, first_gates), coefficients(w, second_gates))
+
+
+def judge(n, table, file, room=None):
+    check_table(n, table)
+    w, gates = parse(file)
+    if w != n + 1:
+        raise Refused(UNLIKE)
+    check_room(room, 2 ** w)
+    found = verdict(w, lambda x: run_gates(gates, x), lambda x: ideal(n, table, x))
+    return found, difference(coefficients(w, gates), ideal_coefficients(n, table))
+
+
+# Listing
+
+def gate_line(gate):
+    if isinstance(gate, Cnot):
+        return f"cx q[{gate.control}],q[{gate.target}];\n"
+    common = gcd(gate.angle, 32768)
+    return f"u1({gate.angle // common}*pi/{32768 // common}) q[{gate.wire}];\n"
+
+
+def listing(file, wrapped, room=None):
+    w, gates = parse(file)
+    text = f'OPENQASM 2.0;\ninclude "qelib1.inc";\nqreg q[{w}];\n'
+    around = f"h q[{w - 1}];\n" if wrapped else ""
+    text += around + "".join(gate_line(gate) for gate in gates) + around
+    check_room(room, len(text))
+    return text.encode("ascii")
+
+
+def listing_program(stdin):
+    """What the listing program prints for these bytes on standard input."""
+    try:
+        if len(stdin) == 0:
+            raise Refused(VARS)
+        folded, before, after = fold(build(stdin[0], stdin[1:]))
+        return listing(folded, True)
+    except Refused as refused:
+        return f"refused {refused.number}\n".encode("ascii")
+
+
+# Cases on each side
+
+EXAMPLE_LISTING = b"""OPENQASM 2.0;
+include "qelib1.inc";
+qreg q[2];
+h q[1];
+u1(1*pi/2) q[1];
+u1(1*pi/2) q[0];
+cx q[0],q[1];
+u1(3*pi/2) q[1];
+cx q[0],q[1];
+h q[1];
+"""
+
+
+def refusal(function, *inputs):
+    try:
+        function(*inputs)
+    except Refused as refused:
+        return refused.number, refused.side, refused.position
+    return None
+
+
+def check():
+    held = 0
+
+    def holds(found, expected):
+        nonlocal held
+        assert found == expected, (found, expected)
+        held += 1
+
+    byte = bytes.fromhex
+    holds(spectrum(1, byte("00")), [2, 0])
+    holds(spectrum(2, byte("08")), [2, 2, 2, -2])
+    holds(spectrum(2, byte("06")), [0, 0, 0, 4])
+    holds(spectrum(3, byte("E8")), [0, 4, 4, 0, 4, 0, 0, -4])
+
+    built = build(1, byte("02"))
+    holds(built, byte("50 48 47 00 01 02 00 06  02 01 40 00  02 00 40 00  02 01 00 00"
+                      "01 00 01 00  02 01 C0 00  01 00 01 00"))
+    holds(count(built), (2, 4, 3))
+    larger = build(2, byte("08"))
+    holds(read(larger), (3, 14))
+    folded, before, after = fold(larger)
+    holds(read(folded), (3, 13))
+    holds((before, after), (8, 7))
+    holds(parse(folded)[1][0], Phase(2, 8192))
+    for n in range(1, 9):
+        table = bytes([1] + [0] * (table_length(n) - 1))
+        holds(read(build(n, table)), (n + 1, 2 ** (n + 2) - 2))
+        holds(len(build(n, table)), 2 ** (n + 4))
+
+    holds(fold_gates(1, [Phase(0, 1), Phase(0, 65535)]), [])
+    holds(fold_gates(2, [Phase(1, 5), Cnot(0, 1), Phase(1, 7), Cnot(0, 1), Phase(1, 9)]),
+          [Phase(1, 14), Cnot(0, 1), Phase(1, 7), Cnot(0, 1)])
+
+    empty = encode(2, [])
+
+    def three_parities(a):
+        return encode(2, [Phase(0, a), Phase(1, a), Cnot(0, 1), Phase(1, a), Cnot(0, 1)])
+
+    holds(compare(encode(2, [Cnot(0, 1)]), empty)[0], Different(1, 3, 1, 0))
+    holds(compare(encode(2, [Cnot(1, 0)]), empty)[0], Different(2, 3, 2, 0))
+    holds(compare(built, empty)[0], Different(3, 3, 3, 32768))
+    holds(compare(three_parities(32768), empty)[0], SAME)
+    holds(compare(three_parities(16384), empty)[0], Different(1, 1, 1, 32768))
+
+    holds(refusal(build, 8, bytes(32)), None)
+    holds(refusal(build, 9, bytes(64)), (VARS, 0, 0))
+    holds(refusal(build, 1, byte("04")), (PAD, 0, 0))
+    holds(refusal(read, encode(1, [Phase(0, 1)] * 2048)), None)
+    holds(refusal(read, encode(1, [Phase(0, 1)] * 2049)), (COUNT, 0, 0))
+    holds(refusal(read, empty[:7]), (SHORT, 0, 0))
+    holds(refusal(build, 1, byte("02"), 31), (ROOM, 0, 0))
+    holds(refusal(build, 1, byte("02"), 32), None)
+
+    holds(listing_program(byte("01 02")), EXAMPLE_LISTING)
+    holds(listing_program(b""), b"refused 1\n")
+    print(f"{held} cases of document 01 hold")
+
+
+if __name__ == "__main__":
+    check()

@@ -1,0 +1,887 @@
+"""Requests for the vectors program `cases` and the output expected of it.
+
+python3 tests/vectors.py SECTION.. --requests FILE --expected FILE
+python3 tests/vectors.py SECTION.. --show
+"""
+
+import argparse
+import random
+from collections import namedtuple
+
+import oracle
+from oracle import Cnot, Phase, encode
+
+Request = namedtuple("Request", "op a b room first second note")
+
+
+# Requests, one maker an operation
+
+def spectrum(note, n, table, room):
+    return Request("S", n, 0, room, table, b"", note)
+
+
+def decode(note, w, position, four):
+    return Request("D", w, position, 0, bytes(four), b"", note)
+
+
+def read(note, file, side=0):
+    return Request("R", side, 0, 0, file, b"", note)
+
+
+def run(note, file, start):
+    return Request("U", 0, start, 0, file, b"", note)
+
+
+def count(note, file):
+    return Request("C", 0, 0, 0, file, b"", note)
+
+
+def build(note, n, table, room):
+    return Request("B", n, 0, room, table, b"", note)
+
+
+def fold(note, file, room):
+    return Request("F", 0, 0, room, file, b"", note)
+
+
+def compare(note, first, second, room):
+    return Request("P", 0, 0, room, first, second, note)
+
+
+def judge(note, n, table, file, room):
+    return Request("J", n, 0, room, table, file, note)
+
+
+def listing(note, file, wrapped, room):
+    return Request("L", 1 if wrapped else 0, 0, room, file, b"", note)
+
+
+def frame(request):
+    numbers = request.b, request.room, len(request.first), len(request.second)
+    header = request.op.encode("ascii") + bytes([request.a])
+    header += b"".join(number.to_bytes(2, "big") for number in numbers)
+    return header + request.first + request.second
+
+
+# Expected output
+
+def digest(data):
+    found = 2166136261
+    for byte in data:
+        found = (found ^ byte) * 16777619 % 2 ** 32
+    return f"{found:08x}"
+
+
+def bytes_words(data):
+    if len(data) > 16:
+        return f"{len(data)} bytes {digest(data)}"
+    return data.hex() or "-"
+
+
+def slice_words(entries, width):
+    if len(entries) > 16:
+        data = b"".join((entry % 256 ** width).to_bytes(width, "big") for entry in entries)
+        return f"{len(entries)} entries {digest(data)}"
+    return " ".join(str(entry) for entry in entries) or "-"
+
+
+def fill(room):
+    return [(i * 37 + 11) % 251 for i in range(room)]
+
+
+WIDTH_LENT = {"S": 4, "B": 1, "F": 1, "P": 2, "J": 2, "L": 1}
+
+
+def request_words(request):
+    first, second = bytes_words(request.first), bytes_words(request.second)
+    a, b, room = request.a, request.b, request.room
+    return {
+        "S": f"spectrum n {a} table {first} room {room}",
+        "D": f"decode wires {a} position {b} bytes {first}",
+        "R": f"read side {a} file {first}",
+        "U": f"run file {first} start {b}",
+        "C": f"count file {first}",
+        "B": f"build n {a} table {first} room {room}",
+        "F": f"fold file {first} room {room}",
+        "P": f"compare first {first} second {second} room {room}",
+        "J": f"judge n {a} table {first} file {second} room {room}",
+        "L": f"list {'wrapped' if a else 'plain'} file {first} room {room}",
+    }[request.op]
+
+
+def gate_words(held):
+    if held is None:
+        return "bad"
+    position, gate = held
+    if isinstance(gate, Cnot):
+        return f"cnot {gate.control} to {gate.target} at {position}"
+    return f"phase {gate.angle} on {gate.wire} at {position}"
+
+
+def verdict_words(verdict):
+    if verdict == oracle.SAME:
+        return "same"
+    return (f"different at {verdict.state} ends {verdict.first_end} {verdict.second_end}"
+            f" phase {verdict.phase}")
+
+
+def answer(request):
+    """What is answered, in words, and the entries written."""
+    op, a, b, room, first, second, note = request
+    if op == "S":
+        written = oracle.spectrum(a, first, room)
+        return f"answers {len(written)}", written
+    if op == "D":
+        return gate_words(oracle.decode(a, b, first)), []
+    if op == "R":
+        return "wires {} gates {}".format(*oracle.read(first, a)), []
+    if op == "U":
+        return "end {} phase {}".format(*oracle.run(first, b)), []
+    if op == "C":
+        return "cnots {} phases {} score {}".format(*oracle.count(first)), []
+    if op == "B":
+        written = oracle.build(a, first, room)
+        return f"length {len(written)}", written
+    if op == "F":
+        written, before, after = oracle.fold(first, room)
+        return f"length {len(written)} score {before} to {after}", written
+    if op == "P":
+        verdict, written = oracle.compare(first, second, room)
+        return verdict_words(verdict), written
+    if op == "J":
+        verdict, written = oracle.judge(a, first, second, room)
+        return verdict_words(verdict), written
+    if op == "L":
+        written = oracle.listing(first, a == 1, room)
+        return f"length {len(written)}", written
+
+
+def expected_line(request):
+    try:
+        words, written = answer(request)
+    except oracle.Refused as refused:
+        words = f"refused {refused.number} side {refused.side} position {refused.position}"
+        written = []
+    line = f"{request_words(request)}: {words}"
+    if request.op in WIDTH_LENT:
+        lent = fill(request.room)
+        assert len(written) <= len(lent)
+        lent[:len(written)] = written
+        line += f"; {slice_words(lent, WIDTH_LENT[request.op])}"
+    return line
+
+
+# Tables
+
+def table_of(n, function):
+    table = bytearray(oracle.table_length(n))
+    for x in range(2 ** n):
+        table[x // 8] |= function(x) << x % 8
+    return bytes(table)
+
+
+def random_table(rng, n):
+    return table_of(n, lambda x: rng.randrange(2))
+
+
+def odd_table(rng, n):
+    """Yes at an odd number of x, so that no s_k is 0 for n above 1."""
+    table = random_table(rng, n)
+    return table if sum(oracle.ones(byte) for byte in table) % 2 else with_bit_changed(table, 0)
+
+
+def with_bit_changed(table, x):
+    changed = bytearray(table)
+    changed[x // 8] ^= 1 << x % 8
+    return bytes(changed)
+
+
+def named_tables(rng, n):
+    last, chosen = 2 ** n - 1, rng.randrange(2 ** n)
+    return [
+        ("never", table_of(n, lambda x: 0)),
+        ("always", table_of(n, lambda x: 1)),
+        ("only x 0", table_of(n, lambda x: int(x == 0))),
+        (f"only x {chosen}", table_of(n, lambda x: int(x == chosen))),
+        ("parity", table_of(n, lambda x: oracle.ones(x) % 2)),
+        ("and", table_of(n, lambda x: int(x == last))),
+        ("or", table_of(n, lambda x: int(x != 0))),
+        ("last variable", table_of(n, lambda x: x >> n - 1)),
+        ("random", random_table(rng, n)),
+        ("another random", random_table(rng, n)),
+    ]
+
+
+def refused_tables(rng):
+    """(note, n, table) for refusals 1, 2, 3 and what lies just inside."""
+    cases = [
+        ("n 0, one byte", 0, b"\0"), ("n 0, empty table", 0, b""),
+        ("n 9, 64 bytes", 9, bytes(64)), ("n 9, empty table", 9, b""),
+        ("n 9, one byte with high bits", 9, b"\xff"), ("n 16", 16, bytes(64)),
+        ("n 255, one byte", 255, b"\0"), ("n 255, empty table", 255, b""),
+    ]
+    for n in range(1, 9):
+        length = oracle.table_length(n)
+        cases.append(("table empty", n, b""))
+        if length > 1:
+            cases.append(("table one byte short", n, random_table(rng, n)[:-1]))
+        cases.append(("table of this length", n, random_table(rng, n)))
+        cases.append(("table one byte long", n, random_table(rng, n) + b"\0"))
+    cases += [("n 4, the table of n 3", 4, b"\xe8"), ("n 8, the table of n 7", 8, bytes(16)),
+              ("n 7, the table of n 8", 7, bytes(32)), ("n 3, the table of n 4", 3, bytes(2))]
+    for n in (1, 2):
+        for bit in range(8):
+            state = "unused" if bit >= 2 ** n else "used"
+            cases.append((f"{state} bit {bit}", n, bytes([1 << bit])))
+        cases.append(("every bit", n, b"\xff"))
+        cases.append(("every used bit", n, bytes([2 ** 2 ** n - 1])))
+        cases.append(("highest unused bit among used ones", n, bytes([0x80 | 1])))
+    for bit in range(8):
+        cases.append((f"no unused bits, bit {bit}", 3, bytes([1 << bit])))
+    cases += [("no unused bits, every bit", 3, b"\xff"), ("no unused bits, every bit", 4, b"\xff\xff")]
+    cases += [("wrong length before unused bit", 1, b"\x04\x00"), ("wrong length before unused bit", 2, b"\xf0\xf0"),
+              ("variables before length", 9, b""), ("variables before length", 0, b"\x04\x04")]
+    return cases
+
+
+# Section spectrum
+
+def spectrum_section(rng):
+    for n, byte in ((1, 0x00), (2, 0x08), (2, 0x06), (3, 0xE8)):
+        yield spectrum("spectrum of 01", n, bytes([byte]), 2 ** n)
+    for n in (1, 2):
+        for byte in range(2 ** 2 ** n):
+            yield spectrum("every table", n, bytes([byte]), 2 ** n)
+    for n in range(1, 9):
+        for note, table in named_tables(rng, n):
+            yield spectrum(note, n, table, 2 ** n)
+        table = random_table(rng, n)
+        for note, room in (("room exact", 2 ** n), ("room one more", 2 ** n + 1), ("room larger", 2 ** n + 17),
+                           ("room twice", 2 ** (n + 1)), ("room one short", 2 ** n - 1), ("room half", 2 ** (n - 1)),
+                           ("no room", 0)):
+            yield spectrum(note, n, table, room)
+    for note, n, table in refused_tables(rng):
+        room = 2 ** n if 1 <= n <= 8 else 4
+        yield spectrum(note, n, table, room)
+    for note, n, table in (("variables before room", 9, b""), ("variables before room", 0, b"\0"),
+                           ("length before room", 3, b""), ("length before room", 8, bytes(31)),
+                           ("length with unused bit before room", 1, b"\x04\x04"),
+                           ("unused bit before room", 1, b"\x04"), ("unused bit before room", 2, b"\x10"),
+                           ("room alone", 1, b"\x03"), ("room alone", 2, b"\x0f")):
+        yield spectrum(note, n, table, 0)
+        yield spectrum(note, n, table, 1)
+
+
+# Circuits
+
+def random_angle(rng):
+    return rng.choice([rng.randrange(65536), rng.randrange(65536), rng.randrange(1, 8), 65536 - rng.randrange(1, 8),
+                       0, 32768, 16384, 49152, 64 * rng.randrange(1024)])
+
+
+def random_cnot(rng, w):
+    return Cnot(*rng.sample(range(w), 2))
+
+
+def random_gates(rng, w, number):
+    return [random_cnot(rng, w) if w > 1 and rng.randrange(2) else Phase(rng.randrange(w), random_angle(rng))
+            for _ in range(number)]
+
+
+def random_file(rng, w, number):
+    return encode(w, random_gates(rng, w, number))
+
+
+def raw(w, quads, mark=b"PHG", version=1, number=None):
+    """A file from four-byte texts, right or wrong."""
+    quads = [bytes.fromhex(quad) for quad in quads]
+    number = len(quads) if number is None else number
+    return mark + version.to_bytes(2, "big") + bytes([w]) + number.to_bytes(2, "big") + b"".join(quads)
+
+
+BAD_AT_TWO_WIRES = [
+    ("kind 0", "00000100"), ("kind 3", "03000100"), ("kind 255", "ff000100"), ("kind 3, angle", "03014000"),
+    ("kind 0, all zero", "00000000"), ("kind 129", "81000100"), ("kind 130", "82014000"),
+    ("control not below w", "01020100"), ("control 255", "01ff0100"), ("target not below w", "01000200"),
+    ("target 255", "0100ff00"), ("phase wire not below w", "02024000"), ("phase wire 255", "02ff4000"),
+    ("phase wire not below w, zero angle", "02020000"), ("control equals target 0", "01000000"),
+    ("control equals target 1", "01010100"), ("spare byte 1", "01000101"), ("spare byte 255", "010100ff"),
+    ("spare byte 128", "01000180"),
+]
+
+GOOD_AT_TWO_WIRES = [
+    ("cnot 0 to 1", "01000100"), ("cnot 1 to 0", "01010000"), ("zero angle", "02000000"), ("least angle", "02010001"),
+    ("angle 256", "02000100"), ("greatest angle", "0201ffff"), ("half turn", "02018000"),
+]
+
+
+def refused_files():
+    """(note, file) for refusals 4 to 10 and what lies just inside."""
+    one, two = ["02004000"], ["02004000", "01000100"]
+    cases = []
+    for length in range(13):
+        cases.append((f"one gate, first {length} bytes", raw(2, one)[:length]))
+    for mark in (b"QHG", b"PIG", b"PHH", b"phg", b"OHG", b"PGG", b"PHF", b"GHP", b"\0\0\0"):
+        cases.append((f"mark {mark.hex()}", raw(2, one, mark=mark)))
+    for version in (0, 1, 2, 256, 257, 65535):
+        cases.append((f"version {version}", raw(2, one, version=version)))
+    for w in (0, 1, 2, 9, 10, 11, 12, 128, 255):
+        cases.append((f"wires {w}, no gates", raw(w, [])))
+        cases.append((f"wires {w}, one gate", raw(w, one)))
+    for number in (2048, 2049, 4096, 65535):
+        cases.append((f"count {number}, one gate given", raw(2, one, number=number)))
+    for note, quads in (("no gates", []), ("one gate", one), ("two gates", two)):
+        whole = raw(2, quads)
+        cases.append((f"{note}, one byte short", whole[:-1]))
+        cases.append((f"{note}, exact", whole))
+        cases.append((f"{note}, one byte long", whole + b"\0"))
+        cases.append((f"{note}, four bytes long", whole + b"\2\0\0\0"))
+    cases.append(("two gates given, count 1", raw(2, two, number=1)))
+    cases.append(("one gate given, count 2", raw(2, one, number=2)))
+    cases.append(("one gate given, count 256", raw(2, one, number=256)))
+    cases.append(("one gate given, count 257", raw(2, one, number=257)))
+    for note, quad in BAD_AT_TWO_WIRES:
+        cases.append((f"bad gate at 0: {note}", raw(2, [quad])))
+        cases.append((f"bad gate at 2: {note}", raw(2, two + [quad] + two)))
+    for note, quad in GOOD_AT_TWO_WIRES:
+        cases.append((f"good gate: {note}", raw(2, [quad])))
+    cases.append(("first bad gate of three", raw(2, two + ["00000000", "01000000", "ff000000"])))
+    cases.append(("first bad gate of two, apart", raw(2, two + two + ["01000101"] + two + ["00000000"])))
+    cases.append(("every gate bad", raw(2, ["03000000"] * 5)))
+    cases.append(("bad gate last", raw(2, two + two + ["02020000"])))
+    cases.append(("one wire, cnot", raw(1, ["01000000"])))
+    cases.append(("one wire, cnot to wire 1", raw(1, ["01000100"])))
+    cases.append(("ten wires, wire 9", raw(10, ["02090001", "01090000", "01000900"])))
+    cases.append(("ten wires, wire 10", raw(10, ["02090001", "020a0001"])))
+    cases.append(("ten wires, target 10", raw(10, ["01090000", "01000a00"])))
+    cases.append(("short before mark", b"QQQ\0\0\0\0"))
+    cases.append(("all wrong", raw(0, ["00000000"], mark=b"QHG", version=2, number=2049)))
+    cases.append(("all but mark wrong", raw(0, ["00000000"], version=2, number=2049)))
+    cases.append(("wires, count, length, gate wrong", raw(0, ["00000000"], number=2049)))
+    cases.append(("count, length, gate wrong", raw(2, ["00000000"], number=2049)))
+    cases.append(("length, gate wrong", raw(2, ["00000000"], number=2048)))
+    cases.append(("gate wrong", raw(2, ["00000000"])))
+    cases.append(("mark and length wrong", raw(2, one, mark=b"PHg") + b"\0"))
+    cases.append(("version and gate wrong", raw(2, ["00000000"], version=3)))
+    cases.append(("wires and length wrong", raw(11, one) + b"\0"))
+    return cases
+
+
+def refusal_samples():
+    """One file for each refusal 4 to 10."""
+    return [
+        ("short", raw(2, [])[:7]), ("empty file", b""), ("mark", raw(2, [], mark=b"PHQ")),
+        ("version", raw(2, [], version=2)), ("no wires", raw(0, [])), ("eleven wires", raw(11, [])),
+        ("count", raw(2, [], number=2049)), ("one byte short", raw(2, ["02004000"])[:-1]),
+        ("one byte long", raw(2, ["02004000"]) + b"\0"), ("gate", raw(2, ["02004000", "01000100", "01010100"])),
+        ("second gate bad of two bad", raw(2, ["02004000", "01000102", "00000000"])),
+    ]
+
+
+# Section circuit
+
+def circuit_section(rng):
+    for kind in range(4):
+        for second in range(3):
+            for third in range(3):
+                for fourth in range(2):
+                    yield decode("small values", 2, 7, [kind, second, third, fourth])
+    for note, quad in BAD_AT_TWO_WIRES + GOOD_AT_TWO_WIRES:
+        yield decode(note, 2, rng.choice([0, 1, 255, 256, 2047, 2048, 65535]), bytes.fromhex(quad))
+    for w in (0, 1, 2, 3, 10, 11, 255):
+        below, beside = max(w - 1, 0), max(w - 2, 0)
+        for four in ([1, below, beside, 0], [1, beside, below, 0], [1, w, 0, 0], [1, 0, w, 0], [1, below, below, 0],
+                     [1, below, beside, 1], [2, below, 18, 52], [2, w, 18, 52], [2, 0, 0, 0], [2, 255, 255, 255],
+                     [0, 0, 0, 0], [1, 0, 0, 0], [1, 0, 255, 0], [1, 255, 0, 0], [3, 0, 1, 0], [255, 0, 1, 0]):
+            yield decode(f"at {w} wires", w, rng.choice([0, 2047, 65535]), four)
+    for _ in range(40):
+        yield decode("random bytes", rng.choice([2, 5, 10, 255]), rng.randrange(65536),
+                     [rng.choice([1, 2, 2, 1, rng.randrange(256)]), rng.randrange(12), rng.randrange(12),
+                      rng.choice([0, 0, rng.randrange(256)])])
+
+    for note, file in refused_files():
+        yield read(note, file)
+    for note, file in refusal_samples():
+        yield read(f"side 1: {note}", file, 1)
+        yield run(f"in a run: {note}", file, 0)
+        yield run(f"before the start is looked at: {note}", file, 65535)
+        yield count(f"in a count: {note}", file)
+    yield read("side 255: gate", refusal_samples()[-1][1], 255)
+    yield read("side 1, good", raw(2, ["01000100"]), 1)
+
+    full = random_file(rng, 10, 2048)
+    over = random_file(rng, 10, 2049)
+    yield read("2,048 gates", full)
+    yield read("2,048 gates, one byte short", full[:-1])
+    yield read("2,048 gates, one byte long", full + b"\0")
+    yield read("2,049 gates", over)
+    yield read("2,049 gates, one byte short", over[:-1])
+    yield read("2,049 gates counted, none given", over[:8])
+    yield read("2,048 gates counted, none given", full[:8])
+    yield read("2,048 gates, last one bad", full[:-4] + b"\1\3\3\0")
+    middling = random_file(rng, 5, 300)
+    for bad in ({299}, {256}, {255, 256}, {0, 299}, {257, 258, 259}):
+        broken = bytearray(middling)
+        for position in bad:
+            broken[8 + 4 * position] = 3
+        yield read(f"300 gates, bad at {sorted(bad)}", bytes(broken))
+
+    for w in range(1, 11):
+        file = raw(w, [])
+        for start in (0, 2 ** w - 1, 2 ** w, 2 ** w + 1, 65535):
+            yield run(f"no gates, {w} wires", file, start)
+    for w, number, starts in ((1, 1, 2), (1, 12, 2), (1, 200, 2), (2, 3, 4), (2, 40, 4), (2, 250, 4), (3, 30, 3),
+                              (5, 10, 6), (5, 60, 6), (5, 300, 3), (8, 100, 3), (10, 20, 6), (10, 120, 5),
+                              (10, 400, 3)):
+        file = random_file(rng, w, number)
+        chosen = [0, 2 ** w - 1] + rng.sample(range(2 ** w), max(0, starts - 2))
+        for start in chosen:
+            yield run(f"{number} random gates, {w} wires", file, start)
+        if number <= 60:
+            for start in (2 ** w, 2 ** w + 1, 65535):
+                yield run(f"{number} random gates, {w} wires, start too high", file, start)
+        yield count(f"{number} random gates, {w} wires", file)
+    for start in (1023, rng.randrange(1, 1023)):
+        yield run("2,048 gates, 10 wires", full, start)
+    yield run("2,048 gates, 5 wires", random_file(rng, 5, 2048), 31)
+    yield run("2,048 half turns and one more unit, 1 wire", encode(1, [Phase(0, 32768)] * 2047 + [Phase(0, 1)]), 1)
+    for a, b in ((1, 65535), (65535, 65535), (32768, 32768), (40000, 40000)):
+        yield run(f"{a} and {b} wrap", encode(1, [Phase(0, a), Phase(0, b)]), 1)
+    yield run("zero bit adds nothing", encode(2, [Phase(0, 5), Phase(1, 7)]), 2)
+    yield run("phase after the bit was cleared", encode(2, [Cnot(0, 1), Phase(1, 7)]), 3)
+    yield run("phase after the bit was set", encode(2, [Cnot(0, 1), Phase(1, 7)]), 1)
+    yield run("swap of two wires", encode(2, [Cnot(0, 1), Cnot(1, 0), Cnot(0, 1), Phase(1, 7)]), 1)
+
+    yield count("no gates", raw(4, []))
+    yield count("zero angles alone", encode(3, [Phase(2, 0)] * 6))
+    yield count("zero angles among others",
+                encode(3, [Phase(2, 0), Phase(0, 1), Cnot(0, 1), Phase(1, 0), Phase(1, 256)]))
+    yield count("cnots alone", encode(3, [Cnot(0, 1), Cnot(1, 2), Cnot(0, 1)]))
+    yield count("angles with one zero byte", encode(1, [Phase(0, 256), Phase(0, 1), Phase(0, 0)]))
+    yield count("2,048 gates", full)
+    yield count("built, n 1, byte 02", oracle.build(1, b"\2"))
+    yield count("built, n 8", oracle.build(8, random_table(rng, 8)))
+
+
+# Section build
+
+def build_section(rng):
+    for n, byte in ((1, 2), (2, 8)):
+        yield build("built of 01", n, bytes([byte]), 2 ** (n + 4))
+    for n in (1, 2):
+        for byte in range(2 ** 2 ** n):
+            yield build("every table", n, bytes([byte]), 2 ** (n + 4))
+    for n in range(3, 9):
+        for note, table in named_tables(rng, n):
+            yield build(note, n, table, 2 ** (n + 4))
+    yield build("majority", 3, b"\xe8", 128)
+    for n in range(1, 9):
+        table, length = random_table(rng, n), 2 ** (n + 4)
+        for note, room in (("room exact", length), ("room one more", length + 1), ("room larger", length + 29),
+                           ("room one short", length - 1), ("room four short", length - 4), ("room 8", 8),
+                           ("no room", 0)):
+            yield build(note, n, table, room)
+    for room in (31, 32, 33, 40, 64):
+        yield build("room of 01", 1, b"\2", room)
+    for note, n, table in refused_tables(rng):
+        room = 2 ** (n + 4) if 1 <= n <= 8 else 16
+        yield build(note, n, table, room)
+    yield build("n 9 with room for it", 9, bytes(64), 8192)
+    for note, n, table in (("variables before room", 9, b""), ("variables before room", 0, b"\0"),
+                           ("length before room", 3, b""), ("length with unused bit before room", 1, b"\x04\x04"),
+                           ("unused bit before room", 1, b"\x04"), ("unused bit before room", 2, b"\x10")):
+        yield build(note, n, table, 0)
+        yield build(note, n, table, 15)
+
+
+# Section fold
+
+def fold_rooms(note, w, gates, more=(0, 1, 13), fewer=(1,)):
+    file = encode(w, gates)
+    length = len(oracle.fold(file)[0])
+    for extra in more:
+        yield fold(f"{note}, room {extra} more", file, length + extra)
+    for short in fewer:
+        yield fold(f"{note}, room {short} short", file, length - short)
+
+
+SWAP = [Cnot(0, 1), Cnot(1, 0), Cnot(0, 1)]
+
+SMALL_FOLDS = [
+    ("1 then 65,535", 1, [Phase(0, 1), Phase(0, 65535)]),
+    ("14, cnot, 7, cnot", 2, [Phase(1, 5), Cnot(0, 1), Phase(1, 7), Cnot(0, 1), Phase(1, 9)]),
+    ("no gates", 1, []),
+    ("no gates, ten wires", 10, []),
+    ("cnots alone", 3, [Cnot(0, 1), Cnot(0, 1), Cnot(1, 2), Cnot(2, 0)]),
+    ("one zero angle", 1, [Phase(0, 0)]),
+    ("zero angles alone", 3, [Phase(2, 0), Phase(0, 0), Phase(1, 0), Phase(2, 0)]),
+    ("zero angles and cnots", 2, [Phase(1, 0), Cnot(0, 1), Phase(1, 0), Cnot(0, 1), Phase(1, 0)]),
+    ("smallest angle", 1, [Phase(0, 1)]),
+    ("first of the group is zero", 2, [Phase(0, 0), Phase(1, 4), Phase(0, 3)]),
+    ("three that make a full turn", 1, [Phase(0, 30000), Phase(0, 30000), Phase(0, 5536)]),
+    ("three that pass a full turn", 1, [Phase(0, 30000), Phase(0, 30000), Phase(0, 5537)]),
+    ("two that cancel, the third stays", 1, [Phase(0, 1), Phase(0, 65535), Phase(0, 9)]),
+    ("groups that cross", 3, [Phase(0, 1), Phase(1, 10), Phase(0, 2), Phase(2, 100), Phase(1, 20), Phase(2, 200)]),
+    ("second group alone has two", 2, [Phase(0, 1), Phase(1, 10), Phase(1, 20)]),
+    ("first group goes, second folds", 2, [Phase(0, 7), Phase(0, 65529), Phase(1, 10), Phase(1, 20)]),
+    ("same wire, other mask", 2, [Phase(1, 5), Cnot(0, 1), Phase(1, 7)]),
+    ("same mask, other wire", 2, [Phase(0, 5)] + SWAP + [Phase(1, 7), Phase(0, 100)]),
+    ("same mask, other wire, cancels", 2, [Phase(0, 5)] + SWAP + [Phase(1, 65531)]),
+    ("parity from both sides", 2, [Cnot(0, 1), Phase(1, 5), Cnot(0, 1), Cnot(1, 0), Phase(0, 6), Cnot(1, 0)]),
+    ("half turns with different parities", 2,
+     [Phase(0, 32768), Phase(1, 32768), Cnot(0, 1), Phase(1, 32768), Cnot(0, 1)]),
+    ("equal sums, other masks", 3, [Phase(0, 5), Phase(1, 5), Phase(2, 5)]),
+    ("groups that sum to a full turn together only", 2, [Phase(0, 1), Phase(1, 65535)]),
+    ("three wires on one parity", 3,
+     [Cnot(0, 2), Cnot(1, 2), Phase(2, 3), Cnot(0, 1), Cnot(1, 2), Cnot(2, 1), Cnot(2, 1), Phase(1, 4), Phase(2, 8),
+      Cnot(1, 2), Phase(2, 16)]),
+]
+
+
+def fold_section(rng):
+    for note, w, gates in SMALL_FOLDS:
+        yield from fold_rooms(note, w, gates, fewer=(1, 4, 8))
+        yield fold(f"{note}, room of the file", encode(w, gates), len(encode(w, gates)))
+    for note, n, table in [("built, n 1, byte 02", 1, b"\2"), ("built, n 2, byte 08", 2, b"\x08")]:
+        yield from fold_rooms(note, n + 1, oracle.construction(n, table), fewer=(1, 4))
+    for n in range(1, 9):
+        chosen = named_tables(rng, n)
+        for note, table in chosen if n < 6 else rng.sample(chosen, 2):
+            gates = oracle.construction(n, table)
+            yield from fold_rooms(f"built, n {n}, {note}", n + 1, gates, more=(0,), fewer=())
+        gates = oracle.construction(n, random_table(rng, n))
+        yield from fold_rooms(f"built, n {n}, folded already", n + 1, oracle.fold_gates(n + 1, gates), more=(0,),
+                              fewer=(1,) if n < 8 else ())
+    for w, number in ((1, 2), (1, 9), (1, 100), (2, 8), (2, 40), (2, 200), (3, 30), (3, 150), (4, 60), (5, 20), (5, 80),
+                      (5, 300), (6, 200), (8, 200), (10, 15), (10, 60), (10, 250)):
+        gates = random_gates(rng, w, number)
+        yield from fold_rooms(f"{number} random gates, {w} wires", w, gates)
+        yield from fold_rooms(f"{number} random gates, {w} wires, folded already", w, oracle.fold_gates(w, gates),
+                              more=(0,))
+        yield fold("room of the file", encode(w, gates), 8 + 4 * number)
+    yield from fold_rooms("2,048 gates, 1 wire", 1, random_gates(rng, 1, 2048), more=(0,), fewer=())
+    yield from fold_rooms("2,048 gates, 5 wires", 5, random_gates(rng, 5, 2048), more=(0,), fewer=())
+    yield from fold_rooms("2,048 gates, 10 wires", 10, random_gates(rng, 10, 2048), more=(3,))
+    for note, file in refusal_samples():
+        yield fold(note, file, 40)
+        yield fold(f"{note}, no room", file, 0)
+
+
+# Section verdict
+
+def all_parities(wires, angle):
+    """A phase on the parity of each non-empty set of these wires; every wire ends as it starts."""
+    gates = []
+    for chosen in range(1, 2 ** len(wires)):
+        members = [wire for i, wire in enumerate(wires) if chosen >> i & 1]
+        gather = [Cnot(member, members[-1]) for member in members[:-1]]
+        gates += gather + [Phase(members[-1], angle)] + gather
+    return gates
+
+
+def hidden_nothing(wires):
+    """Different folded parities, phase 0 everywhere: a = 32,768 for two wires, 16,384 for three, and so on."""
+    return all_parities(wires, 2 ** (17 - len(wires)))
+
+
+def last_state_only(w, unit):
+    """Phase unit * 2^(w-1) at state 2^w - 1, and 0 at all others."""
+    gates = []
+    for i in range(w):
+        for k, v in enumerate(oracle.gray_words(i)):
+            gates.append(Phase(i, (-1) ** oracle.ones(v) * unit % 65536))
+            if i > 0:
+                gates.append(Cnot(oracle.flipped_bit(i, k), i))
+    return gates
+
+
+def wires_of(gate):
+    return {gate.control, gate.target} if isinstance(gate, Cnot) else {gate.wire}
+
+
+def disguised(rng, w, gates):
+    """Other gates that do the same."""
+    out = []
+    for gate in gates:
+        choice = rng.randrange(5)
+        if choice == 0 and w > 1:
+            out += [random_cnot(rng, w)] * 2
+        if choice == 1:
+            out.append(Phase(rng.randrange(w), 0))
+        if choice == 2 and isinstance(gate, Phase):
+            part = rng.randrange(65536)
+            out += [Phase(gate.wire, part), Phase(gate.wire, (gate.angle - part) % 65536)]
+        else:
+            out.append(gate)
+    for i in range(len(out) - 1):
+        if not wires_of(out[i]) & wires_of(out[i + 1]) and rng.randrange(2):
+            out[i], out[i + 1] = out[i + 1], out[i]
+    return out
+
+
+def inserted(rng, gates, block):
+    place = rng.randrange(len(gates) + 1)
+    return gates[:place] + block + gates[place:]
+
+
+def with_angle_moved(gates, position, step):
+    moved = list(gates)
+    moved[position] = Phase(gates[position].wire, (gates[position].angle + step) % 65536)
+    return moved
+
+
+def verdict_rooms(note, w, first, second, rooms=(0, 1, 19, -1)):
+    first, second = encode(w, first), encode(w, second)
+    for extra in rooms:
+        yield compare(f"{note}, room 2^w {extra:+}", first, second, 2 ** w + extra)
+
+
+def pairs(rng, w, number):
+    gates = random_gates(rng, w, number - 1) + [Phase(rng.randrange(w), random_angle(rng))]
+    phases = [p for p, gate in enumerate(gates) if isinstance(gate, Phase)]
+    yield "itself", gates, gates
+    yield "disguised", gates, disguised(rng, w, gates)
+    yield "folded second", gates, oracle.fold_gates(w, gates)
+    yield "folded first", oracle.fold_gates(w, gates), gates
+    yield "one angle up by 1", gates, with_angle_moved(gates, rng.choice(phases), 1)
+    yield "one angle down by 1", gates, with_angle_moved(gates, rng.choice(phases), -1)
+    yield "last angle up by 1", disguised(rng, w, gates), with_angle_moved(gates, phases[-1], 1)
+    yield "one angle a half turn on", gates, with_angle_moved(gates, rng.choice(phases), 32768)
+    yield "the least phase on the last wire", gates, [Phase(w - 1, 1)] + gates
+    if w < 7:
+        yield "last state only, half turn", gates, last_state_only(w, 2 ** (16 - w)) + gates
+    if w < 6:
+        yield "last state only, small", last_state_only(w, 3) + gates, disguised(rng, w, gates)
+    if w > 1:
+        yield "hidden half turns", gates, inserted(rng, gates, hidden_nothing(rng.sample(range(w), 2)))
+        yield "hidden half turns first", inserted(rng, gates, hidden_nothing(rng.sample(range(w), 2))), gates
+        yield "quarter turns where half turns would hide", gates, \
+            inserted(rng, gates, all_parities(rng.sample(range(w), 2), 16384))
+        yield "ends alone", gates, gates + [random_cnot(rng, w)]
+        yield "ends alone, high control", gates + [Cnot(w - 1, 0)], gates
+        yield "ends and phase", gates, gates + [random_cnot(rng, w), Phase(rng.randrange(w), 1)]
+        yield "other random gates", gates, random_gates(rng, w, number)
+    if w > 2:
+        yield "hidden quarter turns", gates, inserted(rng, gates, hidden_nothing(rng.sample(range(w), 3)))
+    if w > 3:
+        yield "hidden eighth turns", gates, inserted(rng, gates, hidden_nothing(rng.sample(range(w), 4)))
+        yield "twice hidden", inserted(rng, gates, hidden_nothing(rng.sample(range(w), 2))), \
+            inserted(rng, gates, hidden_nothing(rng.sample(range(w), 3)))
+
+
+def verdict_section(rng):
+    built = oracle.construction(1, b"\2")
+    empty = []
+    for note, first in (("cnot 0 to 1", [Cnot(0, 1)]), ("cnot 1 to 0", [Cnot(1, 0)]), ("built, n 1, byte 02", built),
+                        ("a 32,768", all_parities([0, 1], 32768)), ("a 16,384", all_parities([0, 1], 16384)),
+                        ("a 1", all_parities([0, 1], 1)), ("a 49,152", all_parities([0, 1], 49152))):
+        yield from verdict_rooms(f"{note} against nothing", 2, first, empty)
+        yield from verdict_rooms(f"nothing against {note}", 2, empty, first, rooms=(0,))
+    yield from verdict_rooms("swap against the other swap", 2, SWAP, [Cnot(1, 0), Cnot(0, 1), Cnot(1, 0)])
+    yield from verdict_rooms("phase at 4, ends at 1", 3, [Phase(2, 9), Cnot(0, 1)], empty)
+    yield from verdict_rooms("phase at 1, ends at 4", 3, [Phase(0, 9), Cnot(2, 1)], empty)
+    yield from verdict_rooms("phase and ends at 1", 3, [Phase(0, 9), Cnot(0, 1)], empty)
+    yield from verdict_rooms("full turn in halves", 1, [Phase(0, 32768)] * 2, empty)
+    yield from verdict_rooms("negative coefficient", 2, [Cnot(0, 1), Phase(1, 1), Cnot(0, 1)], empty)
+    for w in range(1, 11):
+        yield from verdict_rooms(f"nothing against nothing, {w} wires", w, empty, empty, rooms=(0, -1, 1))
+        yield compare("no room", encode(w, empty), encode(w, empty), 0)
+        yield from verdict_rooms(f"least phase on the last of {w}", w, empty, [Phase(w - 1, 1)], rooms=(0,))
+        if w > 1:
+            yield from verdict_rooms(f"cnot from the last of {w}", w, [Cnot(w - 1, 0)], empty, rooms=(0,))
+        if w < 9:
+            yield from verdict_rooms(f"last state of {w} wires only", w, last_state_only(w, 1), empty, rooms=(0,))
+    for w in range(1, 11):
+        for number in (4, 14) if w < 5 else (14,):
+            for i, (note, first, second) in enumerate(pairs(rng, w, number)):
+                rooms = (0, 7, -1) if i % 6 == 0 else (0,) if i % 3 else (rng.randrange(1, 20),)
+                yield from verdict_rooms(f"{w} wires, {note}", w, first, second, rooms=rooms)
+
+    gates = random_gates(rng, 10, 600)
+    yield from verdict_rooms("10 wires, 600 gates, disguised", 10, gates, disguised(rng, 10, gates), rooms=(0,))
+    yield from verdict_rooms("10 wires, 2,045 gates, last state only", 10, last_state_only(10, 1), empty, rooms=(5,))
+    gates = random_gates(rng, 10, 2047) + [Phase(9, 5)]
+    moved = with_angle_moved(gates, 2047, 1)
+    yield from verdict_rooms("10 wires, 2,048 gates, last angle up by 1", 10, gates, moved, rooms=(0,))
+
+    good = raw(2, ["01000100", "02010001"])
+    for note, file in refusal_samples():
+        yield compare(f"first: {note}", file, good, 4)
+        yield compare(f"second: {note}", good, file, 4)
+        yield compare(f"both: {note}", file, file, 4)
+        yield compare(f"first: {note}, second's gate bad", file, raw(2, ["00000000"]), 4)
+        yield compare(f"first's gate bad, second: {note}", raw(2, ["02000000", "00000000"]), file, 4)
+        yield compare(f"second before wire counts: {note}", raw(3, []), file, 8)
+        yield compare(f"second before room: {note}", good, file, 0)
+    for first_w, second_w in ((1, 2), (2, 1), (2, 3), (9, 10), (10, 9), (1, 10)):
+        for room in (2 ** max(first_w, second_w), 0):
+            yield compare(f"wires {first_w} and {second_w}", raw(first_w, []), raw(second_w, []), room)
+
+    yield from judge_requests(rng, good)
+
+
+def small_angles_lost(gates):
+    angles = [gate.angle for gate in gates if isinstance(gate, Phase) and gate.angle != 0]
+    least = min(min(angle, 65536 - angle) for angle in angles)
+    return [gate for gate in gates if isinstance(gate, Cnot) or gate.angle not in (0, least, 65536 - least)]
+
+
+def judge_requests(rng, good):
+    for n in (1, 2):
+        for byte in range(2 ** 2 ** n):
+            table = bytes([byte])
+            yield judge("built", n, table, oracle.build(n, table), 2 ** (n + 1))
+    for byte in range(16):
+        yield judge("built, n 2, byte 08, against every table", 2, bytes([byte]), oracle.build(2, b"\x08"), 8)
+    for n in range(1, 9):
+        size = 2 ** (n + 1)
+        tables = named_tables(rng, n)
+        for name, table in tables if n < 4 else tables[-2:] if n < 6 else tables[-1:]:
+            plain = oracle.build(n, table)
+            folded, before, after = oracle.fold(plain)
+            yield judge(f"built, n {n}, {name}", n, table, plain, size)
+            yield judge(f"folded, n {n}, {name}", n, table, folded, size + rng.randrange(3))
+            for x in sorted({0, 2 ** n - 1, rng.randrange(2 ** n)}) if n < 7 else [2 ** n - 1]:
+                yield judge(f"folded, n {n}, {name}, x {x} changed", n, with_bit_changed(table, x), folded, size)
+        table = odd_table(rng, n)
+        gates = oracle.construction(n, table)
+        if n < 5 or n == 8:
+            yield judge(f"small angles lost, n {n}", n, table, encode(n + 1, small_angles_lost(gates)), size)
+        if n < 5:
+            yield judge(f"disguised, n {n}", n, table, encode(n + 1, disguised(rng, n + 1, gates)), size)
+            hidden = inserted(rng, gates, hidden_nothing(rng.sample(range(n + 1), 2)))
+            yield judge(f"hidden half turns, n {n}", n, table, encode(n + 1, hidden), size)
+            yield judge(f"first quarter turn left out, n {n}", n, table, encode(n + 1, gates[1:]), size)
+            yield judge(f"one cnot too many, n {n}", n, table, encode(n + 1, gates + [Cnot(0, n)]), size)
+            yield judge(f"one angle up by 1, n {n}", n, table, encode(n + 1, with_angle_moved(gates, 0, 1)), size)
+            yield judge(f"one short, n {n}", n, table, encode(n + 1, gates), size - 1)
+            yield judge(f"longer, n {n}", n, table, encode(n + 1, gates), size + 21)
+            yield judge(f"random gates, n {n}", n, table, random_file(rng, n + 1, 30), size)
+        yield judge(f"nothing, never, n {n}", n, table_of(n, lambda x: 0), raw(n + 1, []), size)
+        yield judge(f"nothing, and, n {n}", n, table_of(n, lambda x: x // (2 ** n - 1)), raw(n + 1, []), size)
+        yield judge(f"nothing, random, n {n}", n, random_table(rng, n), raw(n + 1, []), size)
+        yield judge(f"half turn, always, n {n}", n, table_of(n, lambda x: 1), encode(n + 1, [Phase(n, 32768)]), size)
+        yield judge(f"half turn on wire 0, never, n {n}", n, table_of(n, lambda x: 0),
+                    encode(n + 1, [Phase(0, 32768)]), size)
+        yield judge(f"hand made, first variable, n {n}", n, table_of(n, lambda x: x & 1),
+                    encode(n + 1, [Phase(0, 16384), Cnot(0, n), Phase(n, 49152), Cnot(0, n), Phase(n, 16384)]), size)
+        for w in sorted({1, n, n + 1, min(n + 2, 10), 10}):
+            for room in (2 ** w, 2 ** w - 1):
+                yield judge(f"n {n}, {w} wires", n, table_of(n, lambda x: 0), raw(w, []), room)
+    for note, file in refusal_samples():
+        yield judge(note, 1, b"\2", file, 4)
+        yield judge(f"{note}, before wire counts", 2, b"\x08", file, 8)
+        yield judge(f"{note}, before room", 1, b"\2", file, 0)
+        yield judge(f"variables before {note}", 9, b"", file, 4)
+        yield judge(f"table length before {note}", 1, b"", file, 4)
+        yield judge(f"unused bit before {note}", 1, b"\4", file, 4)
+    for note, n, table in refused_tables(rng):
+        yield judge(note, n, table, good if n == 1 else raw(min(n + 1, 10), []), 2 ** min(n + 1, 10))
+    yield judge("variables 9 and ten wires", 9, bytes(64), raw(10, []), 1024)
+    yield judge("wire counts before room", 1, b"\2", raw(3, []), 0)
+    yield judge("room alone", 1, b"\2", raw(2, []), 0)
+
+
+# Section listing
+
+def listing_rooms(note, w, gates, rooms=(0, 1, 23, -1)):
+    file = encode(w, gates)
+    for wrapped in (False, True):
+        length = len(oracle.listing(file, wrapped))
+        for extra in rooms:
+            yield listing(f"{note}, room {extra:+}", file, wrapped, length + extra)
+
+
+def listing_section(rng):
+    for w in range(1, 11):
+        yield from listing_rooms(f"no gates, {w} wires", w, [])
+        for wrapped in (False, True):
+            for room in (0, 1, 16, 17):
+                yield listing("little room", raw(w, []), wrapped, room)
+    for power in range(16):
+        for odd in sorted({1, 3 if power < 15 else 1, 2 ** (16 - power) - 1, rng.randrange(2 ** (15 - power)) * 2 + 1}):
+            angle = odd * 2 ** power
+            yield from listing_rooms(f"angle {angle}", 1, [Phase(0, angle)], rooms=(0,))
+    for angle in (0, 1, 9, 10, 99, 101, 999, 1001, 9999, 10001, 65535, 32767, 32769, 16384, 49152, 32768, 40960):
+        yield from listing_rooms(f"angle {angle}", 10, [Phase(9, angle)])
+    for gates in ([Cnot(0, 9)], [Cnot(9, 0)], [Cnot(4, 5)], [Cnot(0, 1), Cnot(1, 0)]):
+        yield from listing_rooms("cnots", 10, gates)
+    yield from listing_rooms("every wire and angle power", 10, [Phase(i % 10, 2 ** i) for i in range(16)])
+    yield from listing_rooms("zero angles", 3, [Phase(2, 0), Phase(0, 0), Cnot(0, 1)])
+    yield from listing_rooms("built, n 1, byte 02", 2, oracle.construction(1, b"\2"))
+    yield from listing_rooms("folded, n 1, byte 02", 2, oracle.fold_gates(2, oracle.construction(1, b"\2")))
+    yield from listing_rooms("folded, n 2, byte 08", 3, oracle.fold_gates(3, oracle.construction(2, b"\x08")))
+    for n in range(3, 9):
+        gates = oracle.fold_gates(n + 1, oracle.construction(n, random_table(rng, n)))
+        yield from listing_rooms(f"folded, n {n}", n + 1, gates, rooms=(0, 1, -1) if n < 7 else (0,))
+    for w, number in ((1, 3), (1, 40), (2, 20), (3, 60), (5, 50), (7, 90), (9, 30), (10, 12), (10, 150), (10, 500)):
+        yield from listing_rooms(f"{number} random gates, {w} wires", w, random_gates(rng, w, number))
+    longest = encode(10, [Phase(9, 65535 - 2 * i) for i in range(2048)])
+    length = len(oracle.listing(longest, True))
+    yield listing("2,048 long lines, room exact", longest, True, length)
+    yield listing("2,048 long lines, room one short", longest, True, length - 1)
+    yield listing("2,048 long lines, all the room there is", longest, False, 65535)
+    mixed = random_file(rng, 10, 2048)
+    yield listing("2,048 random gates, room exact", mixed, False, len(oracle.listing(mixed, False)))
+    yield listing("2,048 random gates, room larger", mixed, True, len(oracle.listing(mixed, True)) + 100)
+    for note, file in refusal_samples():
+        for wrapped in (False, True):
+            for room in (0, 60):
+                yield listing(note, file, wrapped, room)
+    for note, file in refused_files():
+        yield listing(note, file, rng.randrange(2) == 1, 100)
+
+
+SECTIONS = {
+    "spectrum": (101, spectrum_section), "circuit": (102, circuit_section), "build": (103, build_section),
+    "fold": (104, fold_section), "verdict": (105, verdict_section), "listing": (106, listing_section),
+}
+
+
+def section_requests(name):
+    seed, section = SECTIONS[name]
+    return list(section(random.Random(seed)))
+
+
+# The program
+
+def payload_lines(data):
+    """The bytes in groups of four, at most twenty groups."""
+    if len(data) == 0:
+        return []
+    groups = [data[i:i + 4].hex() for i in range(0, len(data), 4)]
+    return ["    " + " ".join(groups[:20]) + (" .." if len(groups) > 20 else "")]
+
+
+def show(name, requests):
+    for number, request in enumerate(requests, 1):
+        print(f"{name} {number} ({request.note}): {request_words(request)}")
+        for line in payload_lines(request.first) + payload_lines(request.second):
+            print(line)
+
+
+def main():
+    arguments = argparse.ArgumentParser(description="requests and expected output for the vectors program")
+    arguments.add_argument("sections", nargs="+", choices=list(SECTIONS), metavar="SECTION",
+                           help=" ".join(SECTIONS))
+    arguments.add_argument("--requests", metavar="FILE")
+    arguments.add_argument("--expected", metavar="FILE")
+    arguments.add_argument("--show", action="store_true")
+    given = arguments.parse_args()
+    requests = []
+    for name in given.sections:
+        found = section_requests(name)
+        if given.show:
+            show(name, found)
+        requests += found
+    if given.requests:
+        with open(given.requests, "wb") as out:
+            out.write(b"".join(frame(request) for request in requests))
+    if given.expected:
+        lines = [expected_line(request) for request in requests] + [f"{len(requests)} cases"]
+        with open(given.expected, "w", encoding="ascii", newline="\n") as out:
+            out.write("\n".join(lines) + "\n")
+
+
+if __name__ == "__main__":
+    main()
