@@ -13,7 +13,7 @@ use Rattle.refusal.proofs.Outcomes.{Reaches, reaches}
 abbrev pub Distinct : {Answer : Type 0} → (Answer → Said) → Type 0
 Distinct {Answer} said = (a b : Answer) → said a ≡ said b → a ≡ b
 
-same-refusal : (r s : Refusal) → saidOf r ≡ saidOf s → r ≡ s
+pub same-refusal : (r s : Refusal) → saidOf r ≡ saidOf s → r ≡ s
 same-refusal r s e =
     let n : r .number ≡ s .number = cc in
     let d : r .side ≡ s .side = cc in
@@ -49,3 +49,10 @@ module _ {Answer Entry : Type 0} (said : Answer → Said) (o : Outcome) (vs : Li
   -- where every check passes, the answer is the values and the slice begins with the result
   pub when-passed : (a : Answer) (x : List Entry) → o ≡ passed → Meets said o vs result before a x → (said a ≡ values vs) × (x ≡ result ++ drop (length result) before)
   when-passed a x e m = (rw e at (m .says), rw e at (m .leaves))
+
+  -- what a function shows where it refuses, and where it answers
+  pub meets-refused : (a : Answer) (r : Refusal) → said a ≡ saidOf r → o ≡ refused r → Meets said o vs result before a before
+  meets-refused a r e p = rw p (record { says = e; leaves = refl })
+
+  pub meets-passed : (a : Answer) (x : List Entry) → said a ≡ values vs → o ≡ passed → x ≡ result ++ drop (length result) before → Meets said o vs result before a x
+  meets-passed a x e p q = rw p (record { says = e; leaves = q })

@@ -74,3 +74,9 @@ outcome-append (c ∷ cs) ys = first (holds (c .when)) (outcome-append cs ys)
     first : (b : Bool) → outcome (cs ++ ys) ≡ settle (outcome cs) refused (outcome ys) → ifHolds b (refused (c .gives)) (outcome (cs ++ ys)) ≡ settle (ifHolds b (refused (c .gives)) (outcome cs)) refused (outcome ys)
     first true e = refl
     first false e = e
+
+pub then-refused : (xs ys : List Check) (r : Refusal) → outcome xs ≡ refused r → outcome (xs ++ ys) ≡ refused r
+then-refused xs ys r e = outcome-append xs ys ∙ ap (λ o. settle o refused (outcome ys)) e
+
+pub then-passed : (xs ys : List Check) → outcome xs ≡ passed → outcome (xs ++ ys) ≡ outcome ys
+then-passed xs ys e = outcome-append xs ys ∙ ap (λ o. settle o refused (outcome ys)) e

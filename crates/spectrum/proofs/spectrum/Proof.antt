@@ -1,72 +1,89 @@
+use Prim.Native.Nat.{ℕ, _^_, _<_, _≤_}
+use mathlib.Core.Path.{_≡_, sym, _∙_}
+use native.Mathlib.Omega.{arith}
+use lib.Seq.{length-take-le}
 use borrow.Author.Needs.{needs}
+use Rattle.numbers.proofs.Powers.{power-fits}
+use Rattle.table.proofs.Tables.{good-variables}
+use Rattle.spectrum.proofs.Spectra.{part-long, signs-tame, leaves-spectrum}
+use Rattle.spectrum.proofs.Answers.{table-fails, table-good, room-fails, answered}
 use Rattle.spectrum.proofs.spectrum.Statement.{statement}
 use Rattle.spectrum.proofs.spectrum.Tie as tie
-use Rattle.spectrum.proofs.spectrum.Reads as reads
-use Rattle.spectrum.proofs.spectrum.Lts as lts
-use Rattle.numbers.proofs.power.Reads as power-reads
-use Rattle.refusal.proofs.by.Reads as by-reads
-use Rattle.spectrum.proofs.transform.Reads as transform-reads
-use Rattle.spectrum.proofs.write_signs.Reads as write-signs-reads
-use Rattle.table.proofs.check.Reads as check-reads
 
--- src/lib.rt:26:34
 check-requires : tie.Need-check-requires
 check-requires c κs = search needs
 
--- src/lib.rt:26:29
 enum-known-r : tie.Need-enum-known-r
 enum-known-r c = search needs
 
--- src/lib.rt:27:9
 returns : tie.Need-returns
-returns c = ?
+returns c =
+    let a = c .before .before .before .before .before .args in
+    let k = c .before .before .before .check in
+    table-fails (a .n) (a .table .now) (a .out .now) (k .result) (c .before .r .given .0 .0) (k .ensures) (c .before .r .given .1)
 
 enum-told : tie.Need-enum-told
 enum-told c = search needs
 
--- src/lib.rt:29:9
+small : (c : tie.After-enum-told) → c .before .before .before .before .args .n ≤ 8
+small c =
+    let a = c .before .before .before .before .args in
+    let k = c .before .before .check in
+    good-variables (a .n) (a .table .now) (table-good (a .n) (a .table .now) (a .out .now) (k .result) (k .ensures) (c .enum-told .given .1)) .1
+
 power-requires : tie.Need-power-requires
 power-requires c κs = search needs
 
--- src/lib.rt:31:37
+entries : (c : tie.After-power) → c .power .result ≡ 2 ^ c .before .before .before .before .before .args .n
+entries c = c .power .ensures ∙ power-fits (omega (arith, small (c .before)))
+
 by-requires : tie.Need-by-requires
 by-requires c κs = search needs
 
--- src/lib.rt:31:9
 returns-2 : tie.Need-returns-2
-returns-2 c = ?
+returns-2 c =
+    let a = c .before .before .before .before .before .before .before .args in
+    let k = c .before .before .before .before .before .check in
+    room-fails (a .n) (a .table .now) (a .out .now) (k .result) (k .ensures) (c .before .before .before .enum-told .given .1) (omega (arith, entries (c .before .before))) (c .by .result) (c .by .ensures)
 
--- src/lib.rt:33:24
 slice-relend-prefix-write-signs : tie.Need-slice-relend-prefix-write-signs
 slice-relend-prefix-write-signs c = search needs
 
--- src/lib.rt:33:24
 slice-aggregate-write-signs : tie.Need-slice-aggregate-write-signs
-slice-aggregate-write-signs c = ?
+slice-aggregate-write-signs c = sym (length-take-le (c .before .before .power .result) (c .before .before .before .before .before .before .before .args .out .now) (omega arith))
 
--- src/lib.rt:33:5
 write-signs-requires : tie.Need-write-signs-requires
 write-signs-requires c κs = search needs
 
--- src/lib.rt:34:15
 slice-relend-prefix-transform : tie.Need-slice-relend-prefix-transform
 slice-relend-prefix-transform c = search needs
 
--- src/lib.rt:34:15
 slice-aggregate-transform : tie.Need-slice-aggregate-transform
-slice-aggregate-transform c = ?
+slice-aggregate-transform c =
+    let p = c .before .before .before .before .before in
+    let a = p .before .before .before .before .before .args in
+    let s = c .before .before .write-signs in
+    part-long (a .n) (a .table .now) (a .out .now) (s .last .1 .0) (p .power .result) (small (p .before)) (entries p) (c .before .before .before .before .if1 .left) (s .ensures)
 
--- src/lib.rt:34:5
 transform-requires : tie.Need-transform-requires
-transform-requires c κs = ?
+transform-requires c κs =
+    let p = c .before .before .before .before .before in
+    let a = p .before .before .before .before .before .args in
+    let s = c .before .before .write-signs in
+    signs-tame (a .n) (a .table .now) (a .out .now) (s .last .1 .0) (p .power .result) (small (p .before)) (entries p) (c .before .before .before .before .if1 .left) (s .ensures)
 
--- src/lib.rt:23:1
 same-length : tie.Need-same-length
 same-length c = search needs
 
--- src/lib.rt:23:1
 returns-3 : tie.Need-returns-3
-returns-3 c = ?
+returns-3 c =
+    let p = c .before .before .before .before .before .before .before in
+    let a = p .before .before .before .before .before .args in
+    let k = p .before .before .before .check in
+    let s = c .before .before .before .before .write-signs in
+    let room = c .before .before .before .before .before .before .if1 .left in
+    answered (a .n) (a .table .now) (a .out .now) (k .result) (k .ensures) (p .before .enum-told .given .1) (omega (arith, entries p)) (p .power .result) (entries p) _
+    (leaves-spectrum (a .n) (a .table .now) (a .out .now) (s .last .1 .0) (p .power .result) (small (p .before)) (entries p) room (s .ensures) (c .before .transform .last .0) (c .before .transform .ensures))
 
 pub spectrum-spec : {M : Type 1} → statement M
 spectrum-spec =

@@ -1,0 +1,32 @@
+-- What a caller of `check` knows: every check passed, or which one refused. And that it has one answer.
+use Prim.Native.Nat.{ℕ, _≤_, _<_}
+use native.Mathlib.Omega.{arith}
+use mathlib.Core.Path.{_≡_, refl, sym, ap, subst, _∙_}
+use mathlib.Core.List.{List, []}
+use Rattle.refusal.specs.declared.Refusal.{Refusal}
+use Rattle.refusal.specs.Checks.{passed, refused, outcome}
+use Rattle.refusal.specs.Contract.{Says}
+use Rattle.refusal.proofs.Outcomes.{passes}
+use Rattle.refusal.proofs.Contracts.{Distinct, same-refusal, says-refused, says-values}
+use Rattle.table.specs.declared.Checked.{Checked}
+use Rattle.table.specs.declared.Checked.the-variants.{Good, Refused}
+use Rattle.table.specs.Table.{tableChecks, checkedSays}
+
+module _ (n : ℕ) (t : List ℕ) where
+  pub table-refused : (r : Refusal) → Says checkedSays (outcome (tableChecks n t)) [] (Refused r) → outcome (tableChecks n t) ≡ refused r
+  table-refused r s = says-refused (outcome (tableChecks n t)) [] r s
+
+  pub table-passed : Says checkedSays (outcome (tableChecks n t)) [] Good → outcome (tableChecks n t) ≡ passed
+  table-passed s = says-values (outcome (tableChecks n t)) [] [] s .0
+
+  -- "Variables n: 1 to 8."
+  pub good-variables : outcome (tableChecks n t) ≡ passed → (0 < n) × (n ≤ 8)
+  good-variables e =
+      let p = passes (tableChecks n t) e in
+      (omega (arith, p .0), p .1 .0)
+
+pub checked-distinct : Distinct checkedSays
+checked-distinct Good Good e = refl
+checked-distinct Good (Refused r) e = let z : _≡_ {A = ℕ} 0 1 = cc in absurd (omega arith)
+checked-distinct (Refused r) Good e = let z : _≡_ {A = ℕ} 0 1 = cc in absurd (omega arith)
+checked-distinct (Refused r) (Refused s) e = ap Refused (same-refusal r s e)
