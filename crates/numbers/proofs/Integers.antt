@@ -1,6 +1,6 @@
 -- Integers: signs, multiples and sizes.
 use Prim.Native.Nat.{ℕ, zero, suc, _+_, _-_, _*_, _/_, _%_, _≤_, _<_}
-use native.Mathlib.Nat.{add-mul, le-refl, add-comm, mul-comm, mul-add, add-zero, zero-add, suc-add, div-add-mod'}
+use native.Mathlib.Nat.{add-mul, one-mul, le-refl, add-comm, mul-comm, mul-add, add-zero, zero-add, suc-add, div-add-mod'}
 use native.Mathlib.Omega.{arith}
 use mathlib.Core.Path.{_≡_, refl, sym, ap, ap₂, subst, _∙_}
 use mathlib.Core.Bool.{Bool, true, false, cond}
@@ -56,10 +56,19 @@ natAbs-add (pos a) (negsuc b) = natAbs-sub a (suc b)
 natAbs-add (negsuc a) (pos b) = subst (λ (n : ℕ). natAbs (subℕ b (suc a)) ≤ n) (add-comm b (suc a)) (natAbs-sub b (suc a))
 natAbs-add (negsuc a) (negsuc b) = omega arith
 
--- the sum and the difference of two numbers add up to twice the first, and differ by twice the second
+-- the sum and the difference of two numbers add up to twice the first, and they differ by twice the second
 pub sum-and-difference : (y z : ℤ) → (y +ℤ z) +ℤ (y -ℤ z) ≡ y +ℤ y
 sum-and-difference y z = interchange (pos 0) _+ℤ_ ℤ-adds y z y (negℤ z) ∙ ap (λ (x : ℤ). (y +ℤ y) +ℤ x) (+ℤ-invr z) ∙ +ℤ-idr (y +ℤ y)
+
+pub difference-of-both : (y z : ℤ) → (y +ℤ z) -ℤ (y -ℤ z) ≡ z +ℤ z
+difference-of-both y z =
+    ap (λ (x : ℤ). (y +ℤ z) +ℤ x) (negℤ-+ℤ y (negℤ z) ∙ ap (λ (x : ℤ). negℤ y +ℤ x) (negℤ-negℤ z)) ∙ interchange (pos 0) _+ℤ_ ℤ-adds y z (negℤ y) z
+    ∙ ap (λ (x : ℤ). x +ℤ (z +ℤ z)) (+ℤ-invr y) ∙ +ℤ-idl (z +ℤ z)
 
 pub multiple-plus : (a b : ℕ) (z : ℤ) → pos (a + b) *ℤ z ≡ pos a *ℤ z +ℤ pos b *ℤ z
 multiple-plus a b (pos c) = ap pos (add-mul a b c)
 multiple-plus a b (negsuc c) = ap (λ (n : ℕ). negℤ (pos n)) (add-mul a b (suc c)) ∙ negℤ-+ℤ (pos (a * suc c)) (pos (b * suc c))
+
+pub once : (z : ℤ) → pos 1 *ℤ z ≡ z
+once (pos c) = ap pos (one-mul c)
+once (negsuc c) = ap (λ (n : ℕ). negℤ (pos n)) (one-mul (suc c))

@@ -34,18 +34,18 @@ module _ (n : ℕ) (v : ℕ → ℤ) (k : ℕ) (h : k < 2 ^ n) where
   hadamard-sum =
       hadamard-split n v k
       ∙ ap (λ (z : ℤ). hadamard n v k +ℤ z)
-          (sumOf-ext (pos 0) _+ℤ_ (2 ^ n) (λ x. flip (dot k (2 ^ n + x)) (later n v x)) (λ x. flip (dot k x) (later n v x))
-            (λ x l. ap (λ (m : ℕ). flip m (later n v x)) (dot-low-high n k x h l)))
+      (sumOf-ext (pos 0) _+ℤ_ (2 ^ n) (λ x. flip (dot k (2 ^ n + x)) (later n v x)) (λ x. flip (dot k x) (later n v x))
+      (λ x l. ap (λ (m : ℕ). flip m (later n v x)) (dot-low-high n k x h l)))
 
   pub hadamard-difference : hadamard (suc n) v (2 ^ n + k) ≡ hadamard n v k -ℤ hadamard n (later n v) k
   hadamard-difference =
       hadamard-split n v (2 ^ n + k)
       ∙ ap₂ _+ℤ_
-          (sumOf-ext (pos 0) _+ℤ_ (2 ^ n) (λ x. flip (dot (2 ^ n + k) x) (v x)) (λ x. flip (dot k x) (v x))
-            (λ x l. ap (λ (m : ℕ). flip m (v x)) (dot-high-low n k x h l)))
-          (sumOf-ext (pos 0) _+ℤ_ (2 ^ n) (λ x. flip (dot (2 ^ n + k) (2 ^ n + x)) (later n v x)) (λ x. negℤ (flip (dot k x) (later n v x)))
-            (λ x l. ap (λ (m : ℕ). flip m (later n v x)) (dot-high-high n k x h l) ∙ flip-mod (1 + dot k x) (later n v x) ∙ one-more (dot k x) (later n v x))
-          ∙ sym (sumOf-map (pos 0) _+ℤ_ (pos 0) _+ℤ_ negℤ refl negℤ-+ℤ (2 ^ n) (λ x. flip (dot k x) (later n v x))))
+      (sumOf-ext (pos 0) _+ℤ_ (2 ^ n) (λ x. flip (dot (2 ^ n + k) x) (v x)) (λ x. flip (dot k x) (v x))
+      (λ x l. ap (λ (m : ℕ). flip m (v x)) (dot-high-low n k x h l)))
+      (sumOf-ext (pos 0) _+ℤ_ (2 ^ n) (λ x. flip (dot (2 ^ n + k) (2 ^ n + x)) (later n v x)) (λ x. negℤ (flip (dot k x) (later n v x)))
+      (λ x l. ap (λ (m : ℕ). flip m (later n v x)) (dot-high-high n k x h l) ∙ flip-mod (1 + dot k x) (later n v x) ∙ one-more (dot k x) (later n v x))
+      ∙ sym (sumOf-map (pos 0) _+ℤ_ (pos 0) _+ℤ_ negℤ refl negℤ-+ℤ (2 ^ n) (λ x. flip (dot k x) (later n v x))))
     where
       one-more : (m : ℕ) (z : ℤ) → flip (1 + m) z ≡ negℤ (flip m z)
       one-more m z = ap (λ (j : ℕ). flip j z) (let e : 1 + m ≡ suc m = omega arith in e)
@@ -91,8 +91,8 @@ module _ (n : ℕ) (v : List ℤ) where
   unfolding transformed mixed
   by-halves =
       ap₂ _++_
-        (list-ext (2 ^ n) (λ i. entry halves i +ℤ entry halves (2 ^ n + i)) (hadamard (suc n) (entry v))
-          (λ i h. ap₂ _+ℤ_ (first-half i h) (second-half i h) ∙ sym (hadamard-sum n (entry v) i h)))
-        (list-ext (2 ^ n) (λ i. entry halves i -ℤ entry halves (2 ^ n + i)) (λ i. hadamard (suc n) (entry v) (2 ^ n + i))
-          (λ i h. ap₂ _-ℤ_ (first-half i h) (second-half i h) ∙ sym (hadamard-difference n (entry v) i h)))
+      (list-ext (2 ^ n) (λ i. entry halves i +ℤ entry halves (2 ^ n + i)) (hadamard (suc n) (entry v))
+      (λ i h. ap₂ _+ℤ_ (first-half i h) (second-half i h) ∙ sym (hadamard-sum n (entry v) i h)))
+      (list-ext (2 ^ n) (λ i. entry halves i -ℤ entry halves (2 ^ n + i)) (λ i. hadamard (suc n) (entry v) (2 ^ n + i))
+      (λ i h. ap₂ _-ℤ_ (first-half i h) (second-half i h) ∙ sym (hadamard-difference n (entry v) i h)))
       ∙ sym (ap (λ (m : ℕ). list m (hadamard (suc n) (entry v))) (two-pow-succ n) ∙ list-split (2 ^ n) (2 ^ n) (hadamard (suc n) (entry v)))

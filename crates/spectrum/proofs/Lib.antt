@@ -5,3 +5,6 @@ pub mod Bounds
 pub mod Recursion
 pub mod Spectra
 pub mod Answers
+pub mod Inversion
+pub mod Angles
+pub mod Cases

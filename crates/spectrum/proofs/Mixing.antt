@@ -65,13 +65,14 @@ module _ (half : ℕ) (before now : List ℤ) (i : ℕ) (m : Mixing half before 
   mixing-next : Mixing half before next (suc i)
   unfolding next
   mixing-next =
-      record
-        { within = h
-        ; long = length-set (set now i (total half now i)) (half + i) (difference half now i) ∙ length-set now i (total half now i) ∙ m .long
-        ; sums = λ j l. sums′ j l (ℕ-discrete j i)
-        ; differences = λ j l. differences′ j l (ℕ-discrete j i)
-        ; lower = λ j l k. others j (omega arith) (omega arith) ∙ m .lower j (omega arith) k
-        ; upper = λ j l k. others (half + j) (omega arith) (omega arith) ∙ m .upper j (omega arith) k }
+      record {
+        within = h;
+        long = length-set (set now i (total half now i)) (half + i) (difference half now i) ∙ length-set now i (total half now i) ∙ m .long;
+        sums = λ j l. sums′ j l (ℕ-discrete j i);
+        differences = λ j l. differences′ j l (ℕ-discrete j i);
+        lower = λ j l k. others j (omega arith) (omega arith) ∙ m .lower j (omega arith) k;
+        upper = λ j l k. others (half + j) (omega arith) (omega arith) ∙ m .upper j (omega arith) k;
+      }
 
   pub mixing-again : (after : List ℤ) → after ≡ set (set now i (total half now i)) (half + i) (difference half now i) → Mixing half before after (i + 1)
   unfolding next
@@ -86,7 +87,7 @@ unfolding mixed
 mixing-ends half before now fits m =
     sym (take-append-drop half now)
     ∙ ap₂ _++_
-        (is-list (pos 0) (take half now) half (total half before) (length-take-le half now (omega (arith, m .long)))
-          (λ i h. getD-take half now i (pos 0) h ∙ m .sums i h))
-        (is-list (pos 0) (drop half now) half (difference half before) (length-drop half now ∙ omega (arith, m .long))
-          (λ i h. getD-drop half now i (pos 0) ∙ m .differences i h))
+    (is-list (pos 0) (take half now) half (total half before) (length-take-le half now (omega (arith, m .long)))
+    (λ i h. getD-take half now i (pos 0) h ∙ m .sums i h))
+    (is-list (pos 0) (drop half now) half (difference half before) (length-drop half now ∙ omega (arith, m .long))
+    (λ i h. getD-drop half now i (pos 0) ∙ m .differences i h))

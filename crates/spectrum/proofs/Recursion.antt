@@ -49,7 +49,7 @@ module _ (v : List ℤ) (half : ℕ) (d : half ≡ length v / 2) (p : 0 < half) 
 
     module _ (b : List ℤ) (ea : (n : ℕ) → length (take half v) ≡ 2 ^ n → a ≡ transformed n (take half v))
         (eb : (n : ℕ) → length (take (length (a ++ drop half v) - half) (drop half (a ++ drop half v))) ≡ 2 ^ n
-            → b ≡ transformed n (take (length (a ++ drop half v) - half) (drop half (a ++ drop half v)))) where
+        → b ≡ transformed n (take (length (a ++ drop half v) - half) (drop half (a ++ drop half v)))) where
       -- the row after both
       abbrev joined : List ℤ
       joined = putMid half (length (a ++ drop half v) - half) (a ++ drop half v) b
@@ -60,7 +60,7 @@ module _ (v : List ℤ) (half : ℕ) (d : half ≡ length v / 2) (p : 0 < half) 
           let rest = second-part v a half fits la in
           both-parts v a half fits la b
           ∙ ap₂ _++_ (ea m (length-take-le half v fits ∙ h) ∙ ap (λ (k : ℕ). transformed m (take k v)) h)
-              (eb m (ap length rest ∙ length-drop half v ∙ omega arith) ∙ ap (transformed m) rest ∙ ap (λ (k : ℕ). transformed m (drop k v)) h)
+          (eb m (ap length rest ∙ length-drop half v ∙ omega arith) ∙ ap (transformed m) rest ∙ ap (λ (k : ℕ). transformed m (drop k v)) h)
 
       length-halves : (m : ℕ) → length (halves m v) ≡ 2 ^ m + 2 ^ m
       unfolding halves

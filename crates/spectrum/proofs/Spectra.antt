@@ -72,4 +72,4 @@ module _ (n : ℕ) (t : List ℕ) (out signs : List ℤ) (entries : ℕ) (small 
       → part ++ drop entries (signs ++ drop entries out) ≡ spectrumOf n t ++ drop (length (spectrumOf n t)) out
   leaves-spectrum part h =
       ap₂ _++_ (h n (sym part-long ∙ e) ∙ ap (transformed n) first-part ∙ transformed-signs n t)
-        (drop-at signs (drop entries out) entries signs-long ∙ ap (λ (m : ℕ). drop m out) (e ∙ sym (length-spectrum n t)))
+      (drop-at signs (drop entries out) entries signs-long ∙ ap (λ (m : ℕ). drop m out) (e ∙ sym (length-spectrum n t)))

@@ -21,8 +21,11 @@ unfoldable pub spectrumOf : ℕ → List ℕ → List ℤ
 spectrumOf n t = list (2 ^ n) (coefficient n (valueAt t))
 
 -- "Theta_k = s_k times 2^(14-n), wrapped."
+abbrev pub angle : ℕ → ℤ → ℕ
+angle n s = wrap (s *ℤ pos (2 ^ (14 - n)))
+
 abbrev pub theta : ℕ → (ℕ → ℕ) → ℕ → ℕ
-theta n f k = wrap (coefficient n f k *ℤ pos (2 ^ (14 - n)))
+theta n f k = angle n (coefficient n f k)
 
 -- rows 1 to 3, then 13 where out is shorter than 2^n
 abbrev pub spectrumChecks : ℕ → List ℕ → ℕ → List Check

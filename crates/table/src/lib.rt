@@ -2,7 +2,9 @@
 use refusal::Refusal;
 ghost use mathlib.Core.Path.{_≡_};
 ghost use mathlib.Core.List.{[]};
-ghost use Prim.Native.Nat.{_^_, _-_, _≤_, min};
+ghost use Prim.Native.Nat.{_^_, _-_, _≤_, _<_, min};
+ghost use lib.ListN.{getD};
+ghost use Rattle.numbers.specs.Bits.{bit};
 ghost use Rattle.refusal.specs.Checks.{outcome};
 ghost use Rattle.refusal.specs.Contract.{Says};
 ghost use Rattle.table.specs.Table.{valueAt, tableChecks, checkedSays};
@@ -36,12 +38,20 @@ pub fn check(n: u8, table: &[u8]) -> Checked
 pub fn value(table: &[u8], x: usize) -> u8
     ensures { λ r. ⌜ r ≡ valueAt (now (table .entry)) x ⌝ }
 {
-    let byte = x / 8;
-    if byte < table.len() {
-        (table[byte] >> (x % 8)) % 2
-    } else {
-        0
-    }
+    bit_of(byte_at(table, x / 8), x % 8)
+}
+
+fn bit_of(byte: u8, place: usize) -> u8
+    requires { ⌜ place < 8 ⌝ }
+    ensures { λ r. ⌜ r ≡ bit byte place ⌝ }
+{
+    (byte >> place) % 2
+}
+
+fn byte_at(table: &[u8], i: usize) -> u8
+    ensures { λ r. ⌜ r ≡ getD (now (table .entry)) i 0 ⌝ }
+{
+    if i < table.len() { table[i] } else { 0 }
 }
 
 // The table's length.
