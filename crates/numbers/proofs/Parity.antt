@@ -1,11 +1,9 @@
 -- k.x and sets of wires, bit by bit and block by block.
-use Prim.Native.Nat.{ℕ, zero, suc, _+_, _-_, _*_, _/_, _%_, _^_, _≤_, _<_, min}
-use native.Mathlib.Nat.{add-mod, mod-mod, mod-add-mod, add-mod-mod, mod-lt, one-mul, zero-mul, zero-add, add-comm, mul-one}
+use Prim.Native.Nat.{ℕ, zero, suc, _+_, _*_, _/_, _%_, _^_, _<_, min}
+use native.Mathlib.Nat.{add-mod, add-mod-mod}
 use native.Mathlib.Omega.{arith}
-use mathlib.Core.Path.{_≡_, refl, sym, ap, ap₂, subst, _∙_}
-use mathlib.Core.Bool.{Bool, true, false}
-use lib.Dec.{eqb}
-use lib.Bits.{bitAnd, bitXor, and-step, and-block, and-comm, and-zero-l, and-lt, and-le-l}
+use mathlib.Core.Path.{_≡_, refl, sym, ap, ap₂, _∙_}
+use lib.Bits.{bitAnd, and-step, and-block, and-comm, and-lt}
 use lib.Count.{ones, onesIn, ones-step, ones-cat}
 use native.Mathlib.Decide.{ℕ-discrete}
 use borrow.Author.Tests.{eq-eqb, ne-eqb}

@@ -1,11 +1,10 @@
 -- Sums over an index: one law for whole numbers and integers alike, over any operation that has a unit, associates and commutes.
-use Prim.Native.Nat.{ℕ, zero, suc, _+_, _*_, _<_, _≤_}
-use native.Mathlib.Nat.{add-zero, add-suc, zero-add, add-assoc, add-comm, zero-mul, suc-mul, mul-add, mul-zero}
-use native.Mathlib.Numerals.{add-one}
+use Prim.Native.Nat.{ℕ, zero, suc, _+_, _*_, _<_}
+use native.Mathlib.Nat.{add-zero, add-suc, zero-add, add-assoc, add-comm, suc-mul}
 use native.Mathlib.Omega.{arith}
 use mathlib.Core.Path.{_≡_, refl, sym, ap, ap₂, _∙_}
-use lib.IntN.{ℤ, pos, _+ℤ_, +ℤ-idl, +ℤ-idr, +ℤ-assoc, +ℤ-comm}
-use Rattle.numbers.specs.Sums.{sumOf, sum, sumℤ}
+use lib.IntN.{pos, _+ℤ_, +ℤ-idl, +ℤ-assoc, +ℤ-comm}
+use Rattle.numbers.specs.Sums.{sumOf}
 
 pub record Adds {A : Type 0} (none : A) (add : A → A → A) : Type 0 where
   pub unit : (a : A) → add none a ≡ a

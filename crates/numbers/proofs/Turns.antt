@@ -1,12 +1,12 @@
 -- Angles modulo a turn: a congruence, and the angle of an integer.
-use Prim.Native.Nat.{ℕ, zero, suc, _+_, _-_, _*_, _%_, _≤_, _<_}
-use native.Mathlib.Nat.{add-mod, mod-mod, add-mul-mod-self-right, mul-add-mod-self-right, div-add-mod', mod-lt, mod-eq-of-lt, add-mul, mul-add, mul-suc, add-comm, add-zero, mul-comm, mul-zero, zero-add, zero-mul}
+use Prim.Native.Nat.{ℕ, zero, suc, _+_, _-_, _*_, _%_, _<_}
+use native.Mathlib.Nat.{add-mod, mod-mod, add-mul-mod-self-right, mod-eq-of-lt, add-mul, mul-suc, add-comm, add-zero, mul-comm, mul-zero, zero-add, zero-mul}
 use native.Mathlib.Omega.{arith}
-use mathlib.Core.Path.{_≡_, refl, sym, ap, ap₂, subst, _∙_}
+use mathlib.Core.Path.{_≡_, refl, sym, ap, ap₂, _∙_}
 use mathlib.Core.Bool.{Bool, true, false, cond}
 use borrow.Author.Tests.{ltb-true, ltb-false}
 use lib.Dec.{ltb}
-use lib.IntN.{ℤ, pos, negsuc, negℤ, subℕ, _+ℤ_, _*ℤ_, negℤ-negℤ, negsuc-*ℤ-pos}
+use lib.IntN.{ℤ, pos, negsuc, negℤ, subℕ, _+ℤ_, _*ℤ_}
 use Rattle.numbers.specs.Turn.{_≈_, wrap}
 
 pub ≈-of : {a b : ℕ} → a ≡ b → a ≈ b

@@ -6,7 +6,7 @@ use mathlib.Core.List.{List, _++_}
 use lib.ListN.{length, drop}
 use Rattle.refusal.specs.declared.Refusal.{Refusal}
 use Rattle.refusal.specs.Checks.{Check, Outcome, passed, refused, outcome, settle}
-use Rattle.refusal.specs.Contract.{Said, values, refuses, saidOf, Says, Leaves, Meets}
+use Rattle.refusal.specs.Contract.{Said, values, refuses, saidOf, Meets}
 use Rattle.refusal.proofs.Outcomes.{Reaches, reaches}
 
 -- no two answers say the same

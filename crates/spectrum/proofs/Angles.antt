@@ -1,15 +1,14 @@
 -- theta_k: a negative coefficient keeps its sign.
-use Prim.Native.Nat.{ℕ, zero, suc, _+_, _-_, _*_, _^_, _<_, _≤_}
+use Prim.Native.Nat.{ℕ, _+_, _-_, _*_, _^_, _<_, _≤_}
 use native.Mathlib.Nat.{le-trans, mul-le-mul-right, le-of-eq, mul-pos, mul-one, add-mul, zero-mul, mod-eq-of-lt}
 use native.Mathlib.Omega.{arith}
-use mathlib.Core.Path.{_≡_, refl, sym, ap, ap₂, subst, _∙_}
+use mathlib.Core.Path.{_≡_, sym, ap, _∙_}
 use lib.Pow.{pow-pos, pow-add}
-use lib.IntN.{ℤ, pos, negsuc, negℤ, natAbs, _+ℤ_, _*ℤ_}
+use lib.IntN.{ℤ, pos, negℤ, natAbs, _+ℤ_, _*ℤ_}
 use Rattle.numbers.specs.Turn.{_≈_, wrap}
 use Rattle.numbers.proofs.Turns.{_≈∙_, ≈-add, ≈-of, ≈-scale, ≈-sym, wrap-add, wrap-mul, wrap-neg, wrap-below}
 use Rattle.numbers.proofs.Integers.{natAbs-flip}
 use Rattle.spectrum.specs.Spectrum.{coefficient, angle}
-use Rattle.spectrum.specs.Transform.{hadamard}
 use Rattle.spectrum.proofs.Bounds.{hadamard-size}
 use Rattle.spectrum.proofs.Spectra.{sign, hadamard-sign}
 

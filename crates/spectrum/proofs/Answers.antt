@@ -1,7 +1,7 @@
 -- The operation's three ways out, and that it has one answer and one slice.
 use Prim.Native.Nat.{ℕ, _^_, _<_, _≤_}
 use native.Mathlib.Omega.{arith}
-use mathlib.Core.Path.{_≡_, refl, sym, ap, subst, _∙_}
+use mathlib.Core.Path.{_≡_, refl, ap, subst, _∙_}
 use mathlib.Core.Logic.{inl, inr}
 use mathlib.Core.List.{List, [], _∷_, _++_}
 use lib.ListN.{length, drop}
@@ -9,7 +9,7 @@ use lib.IntN.{ℤ}
 use Rattle.refusal.specs.declared.Refusal.{Refusal}
 use Rattle.refusal.specs.Names.{refusal, ROOM}
 use Rattle.refusal.specs.Checks.{check, less, passed, refused, outcome}
-use Rattle.refusal.specs.Contract.{values, saidOf, Says, Meets}
+use Rattle.refusal.specs.Contract.{values, Says, Meets}
 use Rattle.refusal.proofs.Outcomes.{reaches, then-refused, then-passed}
 use Rattle.refusal.proofs.Contracts.{Distinct, same-refusal, one-answer, meets-refused, meets-passed}
 use Rattle.table.specs.declared.Checked.{Checked}

@@ -1,13 +1,13 @@
 -- Sizes: no entry of a transformed row exceeds the sum of the row's sizes, so 32 bits hold all of the working.
 use Prim.Native.Nat.{ℕ, zero, suc, _+_, _*_, _/_, _^_, _<_, _≤_}
-use native.Mathlib.Nat.{le-trans, le-refl, zero-mul, suc-mul, mul-comm, mul-le-mul-left, mul-one, mul-add, add-le-add, le-of-eq, two-pow-succ}
+use native.Mathlib.Nat.{le-trans, suc-mul, mul-comm, mul-le-mul-left, mul-add, add-le-add, le-of-eq, two-pow-succ}
 use native.Mathlib.Decide.{decLt}
 use native.Mathlib.Omega.{arith}
-use mathlib.Core.Path.{_≡_, refl, sym, ap, subst, _∙_}
+use mathlib.Core.Path.{_≡_, refl, sym, ap, _∙_}
 use mathlib.Core.List.{List}
 use lib.ListN.{length, take, drop, length-take, length-drop, List·getD-eq-default}
 use lib.Seq.{getD-take, getD-drop, length-take-le}
-use lib.IntN.{ℤ, pos, natAbs, _+ℤ_}
+use lib.IntN.{ℤ, pos, natAbs}
 use Rattle.numbers.specs.Bits.{dot}
 use Rattle.numbers.specs.Sums.{sumℤ}
 use Rattle.numbers.specs.Turn.{flip}

@@ -1,14 +1,14 @@
 -- The transform by halves is the sum of the paper, at each k.
-use Prim.Native.Nat.{ℕ, zero, suc, _+_, _*_, _%_, _^_, _<_, _≤_}
-use native.Mathlib.Nat.{two-pow-succ, pow-suc}
+use Prim.Native.Nat.{ℕ, suc, _+_, _^_, _<_}
+use native.Mathlib.Nat.{two-pow-succ}
 use native.Mathlib.Omega.{arith}
 use mathlib.Core.Path.{_≡_, refl, sym, ap, ap₂, _∙_}
-use mathlib.Core.List.{List, [], _∷_, _++_}
-use lib.ListN.{length, getD, take, drop, length-take, length-drop, List·getD-append}
-use lib.Seq.{getD-take, getD-drop, getD-append-add, length-take-le}
+use mathlib.Core.List.{List, _++_}
+use lib.ListN.{length, take, drop, List·getD-append}
+use lib.Seq.{getD-take, getD-drop, getD-append-add}
 use lib.IntN.{ℤ, pos, negℤ, _+ℤ_, _-ℤ_, negℤ-+ℤ, +ℤ-idl}
 use Rattle.numbers.specs.Bits.{dot}
-use Rattle.numbers.specs.Sums.{sumOf, sumℤ, list}
+use Rattle.numbers.specs.Sums.{sumℤ, list}
 use Rattle.numbers.specs.Turn.{flip}
 use Rattle.numbers.proofs.Sums.{ℤ-adds, sumOf-ext, sumOf-map, sumOf-split}
 use Rattle.numbers.proofs.Lists.{length-list, getD-list, is-list, list-ext, list-split}

@@ -1,11 +1,11 @@
 -- From a table's signs to its spectrum.
-use Prim.Native.Nat.{ℕ, zero, suc, _+_, _*_, _^_, _<_, _≤_}
-use native.Mathlib.Nat.{add-comm, one-mul}
+use Prim.Native.Nat.{ℕ, _+_, _^_, _<_, _≤_}
+use native.Mathlib.Nat.{add-comm}
 use native.Mathlib.Decide.{decLt}
 use native.Mathlib.Omega.{arith}
-use mathlib.Core.Path.{_≡_, refl, sym, ap, ap₂, subst, _∙_}
+use mathlib.Core.Path.{_≡_, sym, ap, ap₂, subst, _∙_}
 use mathlib.Core.List.{List, _++_}
-use lib.ListN.{length, take, drop, length-append, length-drop, List·getD-eq-default}
+use lib.ListN.{length, take, drop, List·getD-eq-default}
 use lib.Seq.{length-take-le, take-at, drop-at}
 use lib.Pow.{pow-mono}
 use lib.IntN.{ℤ, pos, natAbs, _+ℤ_}

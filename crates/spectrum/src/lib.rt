@@ -39,8 +39,9 @@ pub fn spectrum(n: u8, table: &[u8], out: &mut [i32]) -> Transformed
 fn write_signs(table: &[u8], out: &mut [i32])
     ensures { λ _. ⌜ now (out .exit) ≡ list (length (now (out .entry))) (λ x. flip (valueAt (now (table .entry)) x) (pos 1)) ⌝ }
 {
+    let entries = out.len();
     let mut x: usize = 0;
-    while x < out.len() {
+    while x < entries {
         out[x] = sign(table::value(table, x));
         x += 1;
     }

@@ -1,14 +1,13 @@
 -- What a caller of `check` knows: every check passed, or which one refused. And that it has one answer.
 use Prim.Native.Nat.{ℕ, _≤_, _<_}
 use native.Mathlib.Omega.{arith}
-use mathlib.Core.Path.{_≡_, refl, sym, ap, subst, _∙_}
+use mathlib.Core.Path.{_≡_, refl, ap}
 use mathlib.Core.List.{List, []}
 use Rattle.refusal.specs.declared.Refusal.{Refusal}
 use Rattle.refusal.specs.Checks.{passed, refused, outcome}
 use Rattle.refusal.specs.Contract.{Says}
 use Rattle.refusal.proofs.Outcomes.{passes}
 use Rattle.refusal.proofs.Contracts.{Distinct, same-refusal, says-refused, says-values}
-use Rattle.table.specs.declared.Checked.{Checked}
 use Rattle.table.specs.declared.Checked.the-variants.{Good, Refused}
 use Rattle.table.specs.Table.{tableChecks, checkedSays}
 

@@ -1,5 +1,5 @@
 use Prim.Native.Nat.{ℕ, _<_}
-use mathlib.Core.Path.{_≡_, refl, sym, ap, _∙_}
+use mathlib.Core.Path.{refl, sym, _∙_}
 use native.Mathlib.Omega.{arith}
 use lib.ListN.{length}
 use lib.Seq.{length-take-le}
@@ -23,7 +23,6 @@ abbrev transform-below : ℕ → In 1 transform-kinds.ps
 transform-below t =
     and 1 transform-kinds.ps (falls 1 transform-kinds.ps _<_ μ-transform t) transform.Pre
 
--- src/lib.rt:63:19
 transform-slice-relend-prefix-transform :
     (t : ℕ) → transform-lts.Need-slice-relend-prefix-transform (
       transform-below t,
@@ -33,7 +32,6 @@ transform-slice-relend-prefix-transform :
     ) (transform-at t) transform.Post
 transform-slice-relend-prefix-transform t c = omega arith
 
--- src/lib.rt:63:19
 transform-slice-aggregate-transform : (t : ℕ) → transform-lts.Need-slice-aggregate-transform (
   transform-below t,
   transform.Post,
@@ -42,7 +40,6 @@ transform-slice-aggregate-transform : (t : ℕ) → transform-lts.Need-slice-agg
 ) (transform-at t) transform.Post
 transform-slice-aggregate-transform t c = sym (length-take-le _ (c .before .before .args .v .now) (omega arith))
 
--- src/lib.rt:63:9
 transform-transform-requires : (t : ℕ) → transform-lts.Need-transform-requires (
   transform-below t,
   transform.Post,
@@ -53,7 +50,6 @@ transform-transform-requires t c κs =
     let s = c .before .before in
     (omega (arith, first-falls (s .args .v .now) _ refl (c .before .if1 .taken)), first-call (s .args .v .now) _ refl (c .before .if1 .taken) (s .pre .1))
 
--- src/lib.rt:64:19
 transform-mul-transform : (t : ℕ) → transform-lts.Need-mul-transform (
   transform-below t,
   transform.Post,
@@ -62,7 +58,6 @@ transform-mul-transform : (t : ℕ) → transform-lts.Need-mul-transform (
 ) (transform-at t) transform.Post
 transform-mul-transform t c = omega arith
 
--- src/lib.rt:64:19
 transform-sub-transform : (t : ℕ) → transform-lts.Need-sub-transform (
   transform-below t,
   transform.Post,
@@ -72,7 +67,6 @@ transform-sub-transform : (t : ℕ) → transform-lts.Need-sub-transform (
 transform-sub-transform t c =
     omega (arith, row-long (c .before .before .before .before .args .v .now) _ refl (c .before .before .before .if1 .taken) (c .before .transform .last .0) (c .before .transform .kept .0))
 
--- src/lib.rt:64:19
 transform-part-transform-start : (t : ℕ) → transform-lts.Need-part-transform-start (
   transform-below t,
   transform.Post,
@@ -82,7 +76,6 @@ transform-part-transform-start : (t : ℕ) → transform-lts.Need-part-transform
 transform-part-transform-start t c =
     omega (arith, row-long (c .before .before .before .before .args .v .now) _ refl (c .before .before .before .if1 .taken) (c .before .transform .last .0) (c .before .transform .kept .0))
 
--- src/lib.rt:64:19
 transform-part-transform-end : (t : ℕ) → transform-lts.Need-part-transform-end (
   transform-below t,
   transform.Post,
@@ -91,7 +84,6 @@ transform-part-transform-end : (t : ℕ) → transform-lts.Need-part-transform-e
 ) (transform-at t) transform.Post
 transform-part-transform-end t c = omega arith
 
--- src/lib.rt:64:9
 transform-transform-requires-2 : (t : ℕ) → transform-lts.Need-transform-requires-2 (
   transform-below t,
   transform.Post,
@@ -102,7 +94,6 @@ transform-transform-requires-2 t c κs =
     let s = c .before .before .before .before .before in
     (omega (arith, second-falls (s .args .v .now) _ refl (c .before .before .before .before .if1 .taken) (c .before .before .transform .last .0) (c .before .before .transform .kept .0)), second-call (s .args .v .now) _ refl (c .before .before .before .before .if1 .taken) (c .before .before .transform .last .0) (c .before .before .transform .kept .0) (s .pre .1))
 
--- src/lib.rt:65:9
 transform-mix-requires : (t : ℕ) → transform-lts.Need-mix-requires (
   transform-below t,
   transform.Post,
@@ -114,7 +105,6 @@ transform-mix-requires t c κs =
     let f = c .before .before .before .before .before .transform in
     mix-call (s .args .v .now) _ refl (c .before .before .before .before .before .before .before .if1 .taken) (f .last .0) (f .kept .0) (c .before .before .transform2 .last .0) (f .ensures) (c .before .before .transform2 .ensures) (s .pre .1)
 
--- src/lib.rt:57:1
 transform-same-length : (t : ℕ) → transform-lts.Need-same-length (
   transform-below t,
   transform.Post,
@@ -127,7 +117,6 @@ transform-same-length t c =
     let g = c .before .before .before .before .transform2 in
     c .before .mix .kept .0 ∙ joined-long (s .args .v .now) _ refl (c .before .before .before .before .before .before .before .before .before .if1 .taken) (f .last .0) (f .kept .0) (g .last .0) (f .ensures) (g .ensures) (g .kept .0)
 
--- src/lib.rt:57:1
 transform-returns : (t : ℕ) → transform-lts.Need-returns (
   transform-below t,
   transform.Post,
@@ -140,7 +129,6 @@ transform-returns t c =
     let g = c .before .before .before .before .transform2 in
     mix-gives (s .args .v .now) _ refl (c .before .before .before .before .before .before .before .before .before .if1 .taken) (f .last .0) (f .kept .0) (g .last .0) (f .ensures) (g .ensures) (c .before .mix .last .0) (c .before .mix .ensures)
 
--- src/lib.rt:57:1
 transform-returns-2 : (t : ℕ) → transform-lts.Need-returns-2 (
   transform-below t,
   transform.Post,

@@ -1,4 +1,4 @@
-use Prim.Native.Nat.{ℕ, _-_}
+use Prim.Native.Nat.{ℕ, _-_, _<_}
 use mathlib.Core.Path.{_≡_, subst}
 use native.Mathlib.Omega.{arith}
 use Rattle.spectrum.proofs.Mixing.{Mixing, mixing-starts, pair-fits, mixing-again, mixing-ends}
@@ -21,7 +21,7 @@ mix-pair-requires : tie.Need-mix-pair-requires Inv-loop μ-loop
 mix-pair-requires c κs =
     let a = c .before .before .before .args in
     let l = c .before .before .loop in
-    let h = c .before .loop-test .taken in
+    let h : l .i < a .half = omega arith in
     (omega (arith, l .inv .long), (omega (arith, l .inv .long), pair-fits (a .half) (a .v .now) (l .v) (l .i) (l .inv) (c .before .before .before .pre .1) h))
 
 add-i : tie.Need-add-i Inv-loop μ-loop
@@ -34,7 +34,7 @@ loop-again : tie.Need-loop-again Inv-loop μ-loop
 loop-again c =
     let s = c .before .before .before .before .before in
     let l = c .before .before .before .before .loop in
-    mixing-again (s .args .half) (s .args .v .now) (l .v) (l .i) (l .inv) (s .pre .0) (c .before .before .before .loop-test .taken) (c .before .mix-pair .last .0) (c .before .mix-pair .ensures)
+    mixing-again (s .args .half) (s .args .v .now) (l .v) (l .i) (l .inv) (s .pre .0) (omega arith) (c .before .mix-pair .last .0) (c .before .mix-pair .ensures)
 
 same-length : tie.Need-same-length Inv-loop μ-loop
 same-length c = c .before .loop .inv .long

@@ -1,7 +1,7 @@
 use Prim.Native.Nat.{ℕ}
-use mathlib.Core.Path.{_≡_, sym, ap, _∙_}
+use mathlib.Core.Path.{_≡_, sym, ap}
 use native.Mathlib.Omega.{arith}
-use lib.IntN.{ℤ, pos, negsuc}
+use lib.IntN.{pos}
 use Rattle.numbers.specs.Turn.{flip}
 use Rattle.spectrum.proofs.sign.Statement.{statement}
 use Rattle.spectrum.proofs.sign.Tie as tie

@@ -1,10 +1,9 @@
-use Prim.Native.Nat.{ℕ, _<_, _≤_, _-_, _/_, _^_, min}
-use mathlib.Core.Path.{_≡_, refl, sym, ap, subst, _∙_}
+use Prim.Native.Nat.{ℕ, _≤_, _-_, _/_, _^_}
+use mathlib.Core.Path.{_≡_, refl}
 use mathlib.Core.Logic.{inl, inr}
 use native.Mathlib.Omega.{arith}
 use native.Mathlib.Nat.{div-eq-of-lt, le-div-iff-mul-le, one-mul}
 use borrow.Author.Needs.{needs}
-use lib.ListN.{length, getD}
 use lib.Pow.{pow-pos}
 use Rattle.refusal.proofs.Contracts.{refused-by, all-passed}
 use Rattle.table.proofs.check.Statement.{statement}
