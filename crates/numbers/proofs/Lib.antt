@@ -4,4 +4,5 @@ pub mod Parts
 pub mod Integers
 pub mod Turns
 pub mod Parity
+pub mod Wires
 pub mod Powers

@@ -1,12 +1,10 @@
 -- How a function shows what its checks come to: by going down the list, each test as a fact of numbers.
-use Prim.Native.Nat.{ℕ, _≤_, _<_}
+use Prim.Native.Nat.{_≤_, _<_}
 use mathlib.Core.Path.{_≡_, refl, ap, _∙_}
 use mathlib.Core.Logic.{_⊎_, inl, inr}
 use mathlib.Core.Bool.{Bool, true, false, not}
 use mathlib.Core.List.{List, [], _∷_, _++_}
-use native.Mathlib.Omega.{arith}
-use lib.Dec.{eqb}
-use borrow.Author.Tests.{ltb-false, leb-false, eqb-true, eqb-false, not-false, lt-ltb, le-ltb, le-leb, lt-leb, eq-eqb, ne-eqb}
+use borrow.Author.Tests.{lt-ltb, le-ltb, le-leb, lt-leb, eq-eqb, ne-eqb}
 use Rattle.refusal.specs.declared.Refusal.{Refusal}
 use Rattle.refusal.specs.Checks.{Test, less, atLeast, same, other, holds, Check, Outcome, passed, refused, ifHolds, outcome, settle}
 
@@ -44,26 +42,6 @@ unfolding outcome
 reaches [] o e = rw e
 reaches (c ∷ cs) o (inl h) = rw (holds-true (c .when) (h .0), h .1)
 reaches (c ∷ cs) o (inr h) = rw (holds-false (c .when) (h .0)) (reaches cs o (h .1))
-
--- where the list passed, every test failed
-abbrev pub Passes : List Check → Type 0
-Passes [] = Unit {0}
-Passes (c ∷ cs) = Fails (c .when) × Passes cs
-
-fails : (t : Test) → holds t ≡ false → Fails t
-fails (less a b) e = ltb-false a b e
-fails (atLeast a b) e = leb-false b a e
-fails (same a b) e = eqb-false a b e
-fails (other a b) e = eqb-true a b (not-false (eqb a b) e)
-
-pub passes : (cs : List Check) → outcome cs ≡ passed → Passes cs
-unfolding outcome
-passes [] e = tt
-passes (c ∷ cs) e = first (holds (c .when)) refl e (passes cs)
-  where
-    first : (b : Bool) → holds (c .when) ≡ b → ifHolds b (refused (c .gives)) (outcome cs) ≡ passed → (outcome cs ≡ passed → Passes cs) → Passes (c ∷ cs)
-    first true h e′ rest = let z : _≡_ {A = ℕ} 0 1 = cc in absurd (omega arith)
-    first false h e′ rest = (fails (c .when) h, rest e′)
 
 -- one list after another: the second counts where the first passed
 pub outcome-append : (xs ys : List Check) → outcome (xs ++ ys) ≡ settle (outcome xs) refused (outcome ys)

@@ -6,7 +6,7 @@ use mathlib.Core.List.{List, []}
 use Rattle.refusal.specs.declared.Refusal.{Refusal}
 use Rattle.refusal.specs.Checks.{passed, refused, outcome}
 use Rattle.refusal.specs.Contract.{Says}
-use Rattle.refusal.proofs.Outcomes.{passes}
+use Rattle.refusal.proofs.Passed.{passed-fail}
 use Rattle.refusal.proofs.Contracts.{Distinct, same-refusal, says-refused, says-values}
 use Rattle.table.specs.declared.Checked.the-variants.{Good, Refused}
 use Rattle.table.specs.Table.{tableChecks, checkedSays}
@@ -21,7 +21,7 @@ module _ (n : ℕ) (t : List ℕ) where
   -- "Variables n: 1 to 8."
   pub good-variables : outcome (tableChecks n t) ≡ passed → (0 < n) × (n ≤ 8)
   good-variables e =
-      let p = passes (tableChecks n t) e in
+      let p = passed-fail (tableChecks n t) e in
       (omega (arith, p .0), p .1 .0)
 
 pub checked-distinct : Distinct checkedSays

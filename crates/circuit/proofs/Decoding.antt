@@ -1,0 +1,222 @@
+-- The decoder and the writer of a gate are inverse; the gates of a row of bytes, and the bytes of a row of gates.
+use Prim.Native.Nat.{ℕ, zero, suc, _+_, _*_, _<_, _≤_}
+use native.Mathlib.Nat.{add-zero, add-suc, suc-add}
+use native.Mathlib.Decide.{decLt, ℕ-discrete}
+use native.Mathlib.Omega.{arith}
+use mathlib.Core.Path.{_≡_, refl, sym, ap, ap₂, subst, subst₂, _∙_}
+use mathlib.Core.Logic.{_⊎_, inl, inr}
+use mathlib.Core.List.{List, [], _∷_, _++_, append-assoc}
+use lib.ListN.{length, getD, drop, length-drop}
+use lib.Seq.{drop-drop, getD-drop}
+use borrow.Author.Tests.{lt-ltb, le-ltb, eq-eqb, ne-eqb}
+use Rattle.numbers.specs.Sums.{list}
+use Rattle.circuit.specs.declared.Gate.{Gate}
+use Rattle.circuit.specs.declared.Gate.the-variants.{Cnot, Phase}
+use Rattle.circuit.specs.declared.Placed.{Placed}
+use Rattle.circuit.specs.declared.Decoded.the-variants.{Good, Bad}
+use Rattle.circuit.specs.Gates.{good, decoded, decodedAt, firstBad, gatesFrom, gateBytes, bytesOf, Sound, AllSound}
+
+-- every entry is a byte
+abbrev pub Bytes : List ℕ → Type 0
+Bytes bs = (i : ℕ) → getD bs i 0 < 256
+
+pub bytes-drop : (n : ℕ) (bs : List ℕ) → Bytes bs → Bytes (drop n bs)
+bytes-drop n bs h i = rw (getD-drop n bs i 0) (h (n + i))
+
+-- the first four bytes are those of the good gate g
+pub record Decodes (w p : ℕ) (bs : List ℕ) (g : Gate) : Type 0 where
+  pub answer : decodedAt w p bs ≡ good p g
+  pub sound : Sound w g
+  pub bytes : gateBytes g ≡ getD bs 0 0 ∷ getD bs 1 0 ∷ getD bs 2 0 ∷ getD bs 3 0 ∷ []
+
+abbrev Four : ℕ → ℕ → ℕ → ℕ → ℕ → ℕ → Type 0
+Four w p k a b c = (decoded w p k a b c ≡ Bad) ⊎ ((g : Gate) × Decodes w p (k ∷ a ∷ b ∷ c ∷ []) g)
+
+cnot-four : (w p a b c : ℕ) → Four w p 1 a b c
+unfolding decoded
+cnot-four w p a b c = by (decLt a w) (decLt b w) (ℕ-discrete a b) (ℕ-discrete c 0)
+  where
+    by : Dec (a < w) → Dec (b < w) → Dec (a ≡ b) → Dec (c ≡ 0) → Four w p 1 a b c
+    by (no h) i j k = inl (rw (le-ltb a w (omega arith)))
+    by (yes h) (no i) j k = inl (rw (lt-ltb a w h, le-ltb b w (omega arith)))
+    by (yes h) (yes i) (yes j) k = inl (rw (lt-ltb a w h, lt-ltb b w i, eq-eqb a b j))
+    by (yes h) (yes i) (no j) (no k) = inl (rw (lt-ltb a w h, lt-ltb b w i, ne-eqb a b j, ne-eqb c 0 k))
+    by (yes h) (yes i) (no j) (yes k) =
+        inr (
+          Cnot a b,
+          record {
+            answer = rw (lt-ltb a w h, lt-ltb b w i, ne-eqb a b j, eq-eqb c 0 k);
+            sound = (h, i, j);
+            bytes = ap (λ (n : ℕ). 1 ∷ a ∷ b ∷ n ∷ []) (sym k);
+          },
+        )
+
+phase-four : (w p a b c : ℕ) → b < 256 → c < 256 → Four w p 2 a b c
+unfolding decoded
+phase-four w p a b c hb hc = by (decLt a w)
+  where
+    by : Dec (a < w) → Four w p 2 a b c
+    by (no h) = inl (rw (le-ltb a w (omega arith)))
+    by (yes h) =
+        inr (
+          Phase a (b * 256 + c),
+          record {
+            answer = rw (lt-ltb a w h);
+            sound = (h, omega arith);
+            bytes = ap₂ (λ (m n : ℕ). 2 ∷ a ∷ m ∷ n ∷ []) (omega arith) (omega arith);
+          },
+        )
+
+-- four bytes are bad, or those of one good gate
+pub four : (w p k a b c : ℕ) → b < 256 → c < 256 → Four w p k a b c
+unfolding decoded
+four w p k a b c hb hc = by (ℕ-discrete k 1) (ℕ-discrete k 2)
+  where
+    by : Dec (k ≡ 1) → Dec (k ≡ 2) → Four w p k a b c
+    by (yes e) d = rw e (cnot-four w p a b c)
+    by (no e) (yes d) = rw d (phase-four w p a b c hb hc)
+    by (no e) (no d) = inl (rw (ne-eqb k 1 e, ne-eqb k 2 d))
+
+-- the writer undoes the decoder
+pub bytes-decoded : (w p k a b c : ℕ) (q : Placed) → b < 256 → c < 256 → decoded w p k a b c ≡ Good q
+    → (gateBytes (q .gate) ≡ k ∷ a ∷ b ∷ c ∷ []) × (q .position ≡ p) × Sound w (q .gate)
+bytes-decoded w p k a b c q hb hc e = by (four w p k a b c hb hc)
+  where
+    by : Four w p k a b c → (gateBytes (q .gate) ≡ k ∷ a ∷ b ∷ c ∷ []) × (q .position ≡ p) × Sound w (q .gate)
+    by (inl d) = let z : _≡_ {A = ℕ} 0 1 = cc in absurd (omega arith)
+    by (inr d) =
+        let r : q ≡ record { position = p; gate = d .0 } = cc (e, d .1 .answer) in
+        rw r (d .1 .bytes, refl, d .1 .sound)
+
+-- the decoder undoes the writer
+pub decoded-bytes : (w p : ℕ) (g : Gate) (rest : List ℕ) → Sound w g → decodedAt w p (gateBytes g ++ rest) ≡ good p g
+unfolding decoded
+decoded-bytes w p (Cnot c t) rest h = rw (lt-ltb c w (h .0), lt-ltb t w (h .1), ne-eqb c t (h .2))
+decoded-bytes w p (Phase i a) rest h = rw (lt-ltb i w (h .0)) (ap (λ (n : ℕ). good p (Phase i n)) (omega arith))
+
+pub first-bad : (w n p : ℕ) (bs : List ℕ) → decodedAt w p bs ≡ Bad → firstBad w (suc n) p bs ≡ p
+unfolding firstBad
+first-bad w n p bs e = rw e
+
+pub first-good : (w n p : ℕ) (bs : List ℕ) (q : Placed) → decodedAt w p bs ≡ Good q → firstBad w (suc n) p bs ≡ firstBad w n (suc p) (drop 4 bs)
+unfolding firstBad
+first-good w n p bs q e = rw e
+
+gates-good : (w n p : ℕ) (bs : List ℕ) (g : Gate) → decodedAt w p bs ≡ good p g → gatesFrom w (suc n) p bs ≡ g ∷ gatesFrom w n (suc p) (drop 4 bs)
+unfolding gatesFrom
+gates-good w n p bs g e = rw e
+
+-- where none of n gates is bad the first is good, and none of the others is bad
+pub next-gate : (w n p : ℕ) (bs : List ℕ) → Bytes bs → p + suc n ≤ firstBad w (suc n) p bs
+    → (g : Gate) × Decodes w p bs g × (suc p + n ≤ firstBad w n (suc p) (drop 4 bs)) × (gatesFrom w (suc n) p bs ≡ g ∷ gatesFrom w n (suc p) (drop 4 bs))
+next-gate w n p bs h k = by (four w p (getD bs 0 0) (getD bs 1 0) (getD bs 2 0) (getD bs 3 0) (h 2) (h 3))
+  where
+    by : Four w p (getD bs 0 0) (getD bs 1 0) (getD bs 2 0) (getD bs 3 0)
+        → (g : Gate) × Decodes w p bs g × (suc p + n ≤ firstBad w n (suc p) (drop 4 bs)) × (gatesFrom w (suc n) p bs ≡ g ∷ gatesFrom w n (suc p) (drop 4 bs))
+    by (inl e) = let q = first-bad w n p bs e in absurd (omega arith)
+    by (inr d) =
+        let g = d .0 in
+        let q = first-good w n p bs (record { position = p; gate = g }) (d .1 .answer) in
+        (g, record { answer = d .1 .answer; sound = d .1 .sound; bytes = d .1 .bytes }, omega arith, gates-good w n p bs g (d .1 .answer))
+
+-- the gates of n good fours: as many, each sound, and their bytes are those that were read
+pub record Listed (w n p : ℕ) (bs : List ℕ) : Type 0 where
+  pub count : length (gatesFrom w n p bs) ≡ n
+  pub sound : AllSound w (gatesFrom w n p bs)
+  pub bytes : bytesOf (gatesFrom w n p bs) ≡ bs
+
+-- a list is its first entries, one by one, and the rest
+pub front : (n : ℕ) (l : List ℕ) → n ≤ length l → l ≡ list n (λ i. getD l i 0) ++ drop n l
+front zero l h = refl
+front (suc n) [] h = absurd (omega arith)
+front (suc n) (a ∷ l) h = ap (λ (r : List ℕ). a ∷ r) (front n l (omega arith))
+
+-- wires below w are wires below any larger number
+pub sound-wider : (w v : ℕ) (g : Gate) → w ≤ v → Sound w g → Sound v g
+sound-wider w v (Cnot c t) h k = (omega (arith, k .0), omega (arith, k .1), k .2)
+sound-wider w v (Phase i a) h k = (omega (arith, k .0), k .1)
+
+pub sound-cons : (w : ℕ) (g : Gate) (gs : List Gate) → Sound w g → AllSound w gs → AllSound w (g ∷ gs)
+unfolding AllSound
+sound-cons w g gs h k = (h, k)
+
+pub all-wider : (w v : ℕ) (gs : List Gate) → w ≤ v → AllSound w gs → AllSound v gs
+unfolding AllSound
+all-wider w v [] h k = tt
+all-wider w v (g ∷ gs) h k = (sound-wider w v g h (k .0), all-wider w v gs h (k .1))
+
+pub sound-append : (w : ℕ) (xs ys : List Gate) → AllSound w xs → AllSound w ys → AllSound w (xs ++ ys)
+unfolding AllSound
+sound-append w [] ys h k = k
+sound-append w (g ∷ xs) ys h k = (h .0, sound-append w xs ys (h .1) k)
+
+-- a beginning of a sound list is sound, and so is its rest
+pub sound-parts : (w : ℕ) (xs ys : List Gate) → AllSound w (xs ++ ys) → AllSound w xs × AllSound w ys
+unfolding AllSound
+sound-parts w [] ys h = (tt, h)
+sound-parts w (g ∷ xs) ys h =
+    let r = sound-parts w xs ys (h .1) in
+    ((h .0, r .0), r .1)
+
+pub bytes-append : (xs ys : List Gate) → bytesOf (xs ++ ys) ≡ bytesOf xs ++ bytesOf ys
+unfolding bytesOf
+bytes-append [] ys = refl
+bytes-append (g ∷ xs) ys = ap (gateBytes g ++_) (bytes-append xs ys) ∙ sym (append-assoc (gateBytes g) (bytesOf xs) (bytesOf ys))
+
+pub bytes-cons : (g : Gate) (gs : List Gate) → bytesOf (g ∷ gs) ≡ gateBytes g ++ bytesOf gs
+unfolding bytesOf
+bytes-cons g gs = refl
+
+pub listed : (w n p : ℕ) (bs : List ℕ) → Bytes bs → length bs ≡ 4 * n → p + n ≤ firstBad w n p bs → Listed w n p bs
+unfolding gatesFrom bytesOf AllSound
+listed w zero p [] h e k = record { count = refl; sound = tt; bytes = refl }
+listed w zero p (b ∷ bs) h e k = absurd (omega arith)
+listed w (suc n) p bs h e k =
+    let m : length (drop 4 bs) ≡ 4 * n = length-drop 4 bs ∙ omega arith in
+    let d = next-gate w n p bs h k in
+    more (d .0) (d .1) (d .3) (listed w n (suc p) (drop 4 bs) (bytes-drop 4 bs h) m (d .2))
+  where
+    more : (g : Gate) → Decodes w p bs g → gatesFrom w (suc n) p bs ≡ g ∷ gatesFrom w n (suc p) (drop 4 bs) → Listed w n (suc p) (drop 4 bs) → Listed w (suc n) p bs
+    more g d q r = record {
+      count = ap length q ∙ ap suc (r .count);
+      sound = subst (AllSound w) (sym q) (sound-cons w g (gatesFrom w n (suc p) (drop 4 bs)) (d .sound) (r .sound));
+      bytes = ap bytesOf q ∙ bytes-cons g (gatesFrom w n (suc p) (drop 4 bs)) ∙ ap₂ (λ (x y : List ℕ). x ++ y) (d .bytes) (r .bytes) ∙ sym (front 4 bs (omega arith));
+    }
+
+-- the i-th of n good fours is the i-th gate
+pub gate-at : (w n p : ℕ) (bs : List ℕ) (i : ℕ) → Bytes bs → p + n ≤ firstBad w n p bs → i < n
+    → (g : Gate) × Decodes w (p + i) (drop (4 * i) bs) g × (drop i (gatesFrom w n p bs) ≡ g ∷ drop (suc i) (gatesFrom w n p bs))
+gate-at w zero p bs i h k l = absurd (omega arith)
+gate-at w (suc n) p bs zero h k l =
+    let d = next-gate w n p bs h k in
+    (d .0, rw (add-zero p) (d .1), d .3 ∙ ap (λ (gs : List Gate). d .0 ∷ drop 1 gs) (sym (d .3)))
+gate-at w (suc n) p bs (suc i) h k l =
+    let d = next-gate w n p bs h k in
+    let r = gate-at w n (suc p) (drop 4 bs) i (bytes-drop 4 bs h) (d .2) (omega arith) in
+    let at : 4 + 4 * i ≡ 4 * suc i = omega arith in
+    (r .0, subst₂ (λ (q : ℕ) (l : List ℕ). Decodes w q l (r .0)) (suc-add p i ∙ sym (add-suc p i)) (drop-drop (4 * i) 4 bs ∙ ap (λ (q : ℕ). drop q bs) at) (r .1), ap (drop (suc i)) (d .3) ∙ r .2 ∙ ap (λ (gs : List Gate). r .0 ∷ drop (suc (suc i)) gs) (sym (d .3)))
+
+drop-four : (g : Gate) (bs : List ℕ) → drop 4 (gateBytes g ++ bs) ≡ bs
+drop-four (Cnot c t) bs = refl
+drop-four (Phase i a) bs = refl
+
+-- what is written is read again
+pub first-written : (w p : ℕ) (gs : List Gate) → AllSound w gs → firstBad w (length gs) p (bytesOf gs) ≡ p + length gs
+unfolding firstBad bytesOf AllSound
+first-written w p [] h = sym (add-zero p)
+first-written w p (g ∷ gs) h =
+    first-good w (length gs) p (gateBytes g ++ bytesOf gs) (record { position = p; gate = g }) (decoded-bytes w p g (bytesOf gs) (h .0))
+    ∙ ap (firstBad w (length gs) (suc p)) (drop-four g (bytesOf gs)) ∙ first-written w (suc p) gs (h .1) ∙ suc-add p (length gs) ∙ sym (add-suc p (length gs))
+
+pub gates-written : (w p : ℕ) (gs : List Gate) → AllSound w gs → gatesFrom w (length gs) p (bytesOf gs) ≡ gs
+unfolding gatesFrom bytesOf AllSound
+gates-written w p [] h = refl
+gates-written w p (g ∷ gs) h =
+    gates-good w (length gs) p (gateBytes g ++ bytesOf gs) g (decoded-bytes w p g (bytesOf gs) (h .0))
+    ∙ ap (λ (bs : List ℕ). g ∷ gatesFrom w (length gs) (suc p) bs) (drop-four g (bytesOf gs)) ∙ ap (λ (l : List Gate). g ∷ l) (gates-written w (suc p) gs (h .1))
+
+pub length-bytes : (gs : List Gate) → length (bytesOf gs) ≡ 4 * length gs
+unfolding bytesOf
+length-bytes [] = refl
+length-bytes (Cnot c t ∷ gs) = let e = length-bytes gs in omega arith
+length-bytes (Phase i a ∷ gs) = let e = length-bytes gs in omega arith

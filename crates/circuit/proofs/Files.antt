@@ -1,0 +1,193 @@
+-- A file and its gate list are each other's; what callers of the reader know when it answers and when it refuses.
+use Prim.Native.Nat.{ℕ, suc, _+_, _-_, _*_, _/_, _%_, _<_, _≤_}
+use native.Mathlib.Nat.{zero-add, add-zero}
+use native.Mathlib.Numerals.{add-one}
+use native.Mathlib.Omega.{arith}
+use mathlib.Core.Path.{_≡_, refl, sym, ap, ap₂, subst₂, _∙_}
+use mathlib.Core.List.{List, [], _∷_}
+use lib.ListN.{length, getD, drop, length-drop, drop-of-length-le}
+use lib.Seq.{drop-drop, getD-drop}
+use borrow.Author.Tests.{le-leb, lt-leb}
+use Rattle.refusal.specs.declared.Refusal.{Refusal}
+use Rattle.refusal.specs.Checks.{passed, refused, outcome}
+use Rattle.refusal.specs.Contract.{Says}
+use Rattle.refusal.proofs.Passed.{passed-fail, fail-passed}
+use Rattle.refusal.proofs.Contracts.{says-refused, says-values}
+use Rattle.circuit.specs.declared.Gate.{Gate}
+use Rattle.circuit.specs.declared.Placed.{Placed}
+use Rattle.circuit.specs.declared.Decoded.the-variants.{Good, Bad}
+use Rattle.circuit.specs.declared.Reading.{Reading}
+use Rattle.circuit.specs.declared.Reading.the-variants.{Circuit, Refused}
+use Rattle.circuit.specs.Gates.{good, decoded, decodedAt, bytesOf, gatesFrom, firstBad, Sound, AllSound}
+use Rattle.circuit.specs.File.{markOf, versionOf, wiresOf, countOf, gatesOf, badOf, gateAt, fileChecks, fileOf, readingSays}
+use Rattle.circuit.proofs.Decoding.{first-bad, first-good, Bytes, bytes-drop, Listed, listed, gate-at, front, first-written, gates-written, length-bytes}
+
+-- the gate at i where its bytes lie in the file, byte by byte, and where they do not
+pub gate-inside : (f : List ℕ) (i : ℕ) → 12 + 4 * i ≤ length f
+    → decoded (getD f 5 0) i (getD f (8 + 4 * i) 0) (getD f (8 + 4 * i + 1) 0) (getD f (8 + 4 * i + 2) 0) (getD f (8 + 4 * i + 3) 0) ≡ gateAt f i
+gate-inside f i h =
+    rw (le-leb (12 + 4 * i) (length f) h, getD-drop (8 + 4 * i) f 0 0, getD-drop (8 + 4 * i) f 1 0, getD-drop (8 + 4 * i) f 2 0, getD-drop (8 + 4 * i) f 3 0, add-zero (8 + 4 * i))
+
+pub gate-outside : (f : List ℕ) (i : ℕ) → length f < 12 + 4 * i → gateAt f i ≡ Bad
+gate-outside f i h = rw (lt-leb (12 + 4 * i) (length f) h)
+
+-- the search for the first bad gate, from position i on
+module _ (f : List ℕ) (n i : ℕ) (h : 8 + 4 * n ≤ length f) (k : i < n) where
+  inside : gateAt f i ≡ decodedAt (wiresOf f) i (drop (8 + 4 * i) f)
+  inside = let l : 12 + 4 * i ≤ length f = omega arith in rw (le-leb (12 + 4 * i) (length f) l)
+
+  more : n - i ≡ suc (n - suc i)
+  more = omega arith
+
+  pub search-stops : gateAt f i ≡ Bad → firstBad (wiresOf f) (n - i) i (drop (8 + 4 * i) f) ≡ i
+  search-stops e = ap (λ (m : ℕ). firstBad (wiresOf f) m i (drop (8 + 4 * i) f)) more ∙ first-bad (wiresOf f) (n - suc i) i (drop (8 + 4 * i) f) (sym inside ∙ e)
+
+  pub search-goes-on : (q : Placed) → gateAt f i ≡ Good q
+      → firstBad (wiresOf f) (n - i) i (drop (8 + 4 * i) f) ≡ firstBad (wiresOf f) (n - (i + 1)) (i + 1) (drop (8 + 4 * (i + 1)) f)
+  search-goes-on q e =
+      let at : 8 + 4 * i + 4 ≡ 8 + 4 * suc i = omega arith in
+      ap (λ (m : ℕ). firstBad (wiresOf f) m i (drop (8 + 4 * i) f)) more ∙ first-good (wiresOf f) (n - suc i) i (drop (8 + 4 * i) f) q (sym inside ∙ e)
+      ∙ rw (drop-drop 4 (8 + 4 * i) f, at, add-one i)
+
+pub search-done : (f : List ℕ) (n i : ℕ) → i ≡ n → i ≡ firstBad (wiresOf f) (n - i) i (drop (8 + 4 * i) f)
+unfolding firstBad
+search-done f n i e = let z : n - i ≡ 0 = omega arith in rw z
+
+-- a file that passes every check
+pub record GoodFile (f : List ℕ) : Type 0 where
+  pub long : 8 ≤ length f
+  pub mark : markOf f ≡ 0x504847
+  pub version : versionOf f ≡ 1
+  pub some : 1 ≤ wiresOf f
+  pub few : wiresOf f ≤ 10
+  pub count : countOf f ≤ 2048
+  pub whole : length f ≡ 8 + 4 * countOf f
+  pub gates : countOf f ≤ badOf f
+
+pub good-file : (s : ℕ) (f : List ℕ) → outcome (fileChecks s f) ≡ passed → GoodFile f
+good-file s f e =
+    let h = passed-fail (fileChecks s f) e in
+    let r = h .1 .1 .1 in
+    record {
+      long = h .0;
+      mark = h .1 .0;
+      version = h .1 .1 .0;
+      some = omega (arith, r .0);
+      few = r .1 .0;
+      count = r .1 .1 .0;
+      whole = r .1 .1 .1 .0;
+      gates = r .1 .1 .1 .1 .0;
+    }
+
+pub file-passes : (s : ℕ) (f : List ℕ) → GoodFile f → outcome (fileChecks s f) ≡ passed
+file-passes s f h =
+    fail-passed (fileChecks s f) (h .long, (h .mark, (h .version, (omega (arith, h .some), (h .few, (h .count, (h .whole, (h .gates, tt))))))))
+
+module _ (w : ℕ) (gs : List Gate) where
+  pub wires-written : wiresOf (fileOf w gs) ≡ w
+  unfolding fileOf
+  wires-written = refl
+
+  pub count-written : countOf (fileOf w gs) ≡ length gs
+  unfolding fileOf
+  count-written = omega arith
+
+  pub rest-written : drop 8 (fileOf w gs) ≡ bytesOf gs
+  unfolding fileOf
+  rest-written = refl
+
+  pub length-file : length (fileOf w gs) ≡ 8 + 4 * length gs
+  unfolding fileOf
+  length-file = let e = length-bytes gs in omega arith
+
+  -- a gate list written to a file and read again is that list
+  pub list-written : AllSound w gs → gatesOf (fileOf w gs) ≡ gs
+  list-written h =
+      ap₂ (λ (n : ℕ) (bs : List ℕ). gatesFrom (wiresOf (fileOf w gs)) n 0 bs) count-written rest-written
+      ∙ ap (λ (v : ℕ). gatesFrom v (length gs) 0 (bytesOf gs)) wires-written ∙ gates-written w 0 gs h
+
+  pub written-passes : (s : ℕ) → 1 ≤ w → w ≤ 10 → AllSound w gs → length gs ≤ 2048 → outcome (fileChecks s (fileOf w gs)) ≡ passed
+  unfolding fileOf
+  written-passes s hw hw′ h k =
+      let l = length-file in
+      let c = count-written in
+      let b : firstBad w (countOf (fileOf w gs)) 0 (bytesOf gs) ≡ length gs = ap (λ (n : ℕ). firstBad w n 0 (bytesOf gs)) c ∙ first-written w 0 gs h ∙ zero-add (length gs) in
+      file-passes s (fileOf w gs) (record {
+        long = omega arith;
+        mark = refl;
+        version = refl;
+        some = hw;
+        few = hw′;
+        count = omega arith;
+        whole = omega arith;
+        gates = omega arith;
+      })
+
+module _ (f : List ℕ) (bytes : Bytes f) (h : GoodFile f) where
+  file-listed : Listed (wiresOf f) (countOf f) 0 (drop 8 f)
+  file-listed = listed (wiresOf f) (countOf f) 0 (drop 8 f) (bytes-drop 8 f bytes) (length-drop 8 f ∙ omega (arith, h .whole)) (omega (arith, h .gates))
+
+  pub file-sound : AllSound (wiresOf f) (gatesOf f)
+  file-sound = file-listed .sound
+
+  pub length-gates : length (gatesOf f) ≡ countOf f
+  length-gates = file-listed .count
+
+  -- a good file's bytes are those that its list writes
+  pub file-written : f ≡ fileOf (wiresOf f) (gatesOf f)
+  unfolding fileOf
+  file-written =
+      let n = length-gates in
+      let e0 : getD f 0 0 ≡ 0x50 = omega (arith, h .mark, bytes 1, bytes 2) in
+      let e1 : getD f 1 0 ≡ 0x48 = omega (arith, h .mark, bytes 1, bytes 2) in
+      let e2 : getD f 2 0 ≡ 0x47 = omega (arith, h .mark, bytes 1, bytes 2) in
+      let e3 : getD f 3 0 ≡ 0 = omega (arith, h .version, bytes 4) in
+      let e4 : getD f 4 0 ≡ 1 = omega (arith, h .version, bytes 4) in
+      let e6 : getD f 6 0 ≡ length (gatesOf f) / 256 = omega (arith, bytes 7) in
+      let e7 : getD f 7 0 ≡ length (gatesOf f) % 256 = omega (arith, bytes 7) in
+      let e8 : bytesOf (gatesOf f) ≡ drop 8 f = file-listed .bytes in
+      front 8 f (h .long) ∙ cc
+
+  -- the gate at each position below the count is good, and it is the list's
+  pub gate-found : (i : ℕ) → i < countOf f → (g : Gate) × (gateAt f i ≡ good i g) × (drop i (gatesOf f) ≡ g ∷ drop (suc i) (gatesOf f)) × Sound (wiresOf f) g
+  gate-found i k =
+      let d = gate-at (wiresOf f) (countOf f) 0 (drop 8 f) i (bytes-drop 8 f bytes) (omega (arith, h .gates)) k in
+      let l : 12 + 4 * i ≤ length f = omega (arith, h .whole) in
+      let e : gateAt f i ≡ good i (d .0) =
+      rw (le-leb (12 + 4 * i) (length f) l)
+      (subst₂ (λ (p : ℕ) (bs : List ℕ). decodedAt (wiresOf f) p bs ≡ good p (d .0)) (zero-add i) (drop-drop (4 * i) 8 f) (d .1 .answer)) in
+      (d .0, e, d .2, d .1 .sound)
+
+  -- for loops over the gates: what a good answer at i says of the rest of the list, and that no answer is bad
+  pub gate-next : (i : ℕ) (q : Placed) → i < countOf f → gateAt f i ≡ Good q → (drop i (gatesOf f) ≡ q .gate ∷ drop (suc i) (gatesOf f)) × (q .position ≡ i) × Sound (wiresOf f) (q .gate)
+  gate-next i q k e =
+      let d = gate-found i k in
+      let p : q ≡ record { position = i; gate = d .0 } = cc (e, d .1) in
+      rw p (d .2, refl, d .3)
+
+  pub gate-not-bad : (i : ℕ) → i < countOf f → gateAt f i ≡ Bad → ⊥
+  gate-not-bad i k e =
+      let d = gate-found i k in
+      let z : _≡_ {A = ℕ} 0 1 = cc (e, d .1) in
+      omega arith
+
+  -- at the count the list is at its end
+  pub gates-end : (i : ℕ) → countOf f ≤ i → drop i (gatesOf f) ≡ []
+  gates-end i k = drop-of-length-le (gatesOf f) {i = i} (omega (arith, length-gates))
+
+-- what a caller of the reader knows when it answers
+pub record Answered (s : ℕ) (f : List ℕ) (w g : ℕ) : Type 0 where
+  pub passes : outcome (fileChecks s f) ≡ passed
+  pub file : GoodFile f
+  pub wires : w ≡ wiresOf f
+  pub count : g ≡ countOf f
+
+module _ (s : ℕ) (f : List ℕ) (r : Reading) (says : Says readingSays (outcome (fileChecks s f)) (wiresOf f ∷ countOf f ∷ []) r) where
+  pub read-answers : (w g : ℕ) → r ≡ Circuit w g → Answered s f w g
+  read-answers w g e =
+      let v = says-values (outcome (fileChecks s f)) (wiresOf f ∷ countOf f ∷ []) (w ∷ g ∷ []) (rw e at says) in
+      record { passes = v .0; file = good-file s f (v .0); wires = cc (v .1); count = cc (v .1) }
+
+  -- and when it refuses
+  pub read-refuses : (x : Refusal) → r ≡ Refused x → outcome (fileChecks s f) ≡ refused x
+  read-refuses x e = says-refused (outcome (fileChecks s f)) (wiresOf f ∷ countOf f ∷ []) x (rw e at says)

@@ -1,0 +1,11 @@
+pub mod Counts
+pub mod Decoding
+pub mod Files
+pub mod Answers
+mod Checking
+mod Filling
+mod Loops
+pub mod Masks
+pub mod Runs
+mod Stepping
+pub mod Writing

@@ -1,0 +1,195 @@
+use native.Mathlib.Omega.{arith}
+use mathlib.Core.Path.{refl}
+use mathlib.Core.Logic.{inl, inr}
+use Rattle.refusal.specs.Names.{refusalAt, SHORT, MARK, VERSION, WIRES, COUNT, LENGTH, GATE}
+use Rattle.circuit.specs.File.{wiresOf}
+use Rattle.circuit.proofs.Checking.{refusing, answering, bad-gate, no-bad-gate}
+use borrow.Author.Needs.{needs}
+use Rattle.circuit.proofs.reader.read.Statement.{statement}
+use Rattle.circuit.proofs.reader.read.Tie as tie
+
+-- the call, as it is known behind each check
+abbrev from1 : tie.Else1 → tie.Start
+from1 c = c .before .before
+
+abbrev from2 : tie.Else2 → tie.Start
+from2 c = from1 (c .before .before .before .before .before)
+
+abbrev from3 : tie.Else3 → tie.Start
+from3 c = from2 (c .before .before .before .before)
+
+abbrev from4 : tie.Else4 → tie.Start
+from4 c = from3 (c .before .before)
+
+abbrev from5 : tie.Else5 → tie.Start
+from5 c = from4 (c .before)
+
+abbrev from6 : tie.Else6 → tie.Start
+from6 c = from5 (c .before .before .before .before)
+
+abbrev from7 : tie.Else7 → tie.Start
+from7 c = from6 (c .before)
+
+refused-requires : tie.Need-refused-requires
+refused-requires c κs = search needs
+
+returns : tie.Need-returns
+returns c =
+    let a = c .before .before .before .args in
+    refusing (a .side) (a .file .now) (refusalAt SHORT (a .side) 0) (c .refused .result) (c .refused .ensures)
+    (inl (omega arith, refl))
+
+shared-slice-read-mark : tie.Need-shared-slice-read-mark
+shared-slice-read-mark c = search needs
+
+shared-slice-read-mark-2 : tie.Need-shared-slice-read-mark-2
+shared-slice-read-mark-2 c = search needs
+
+shared-slice-read-mark-3 : tie.Need-shared-slice-read-mark-3
+shared-slice-read-mark-3 c = search needs
+
+mark-requires : tie.Need-mark-requires
+mark-requires c κs = search needs
+
+refused-requires-2 : tie.Need-refused-requires-2
+refused-requires-2 c κs = search needs
+
+returns-2 : tie.Need-returns-2
+returns-2 c =
+    let a = from1 (c .before .before .before .before .before .before) .args in
+    refusing (a .side) (a .file .now) (refusalAt MARK (a .side) 0) (c .refused2 .result) (c .refused2 .ensures)
+    (inr (omega arith, inl (omega arith, refl)))
+
+shared-slice-read-word : tie.Need-shared-slice-read-word
+shared-slice-read-word c = search needs
+
+shared-slice-read-word-2 : tie.Need-shared-slice-read-word-2
+shared-slice-read-word-2 c = search needs
+
+word-requires : tie.Need-word-requires
+word-requires c κs = search needs
+
+refused-requires-3 : tie.Need-refused-requires-3
+refused-requires-3 c κs = search needs
+
+returns-3 : tie.Need-returns-3
+returns-3 c =
+    let a = from2 (c .before .before .before .before .before) .args in
+    refusing (a .side) (a .file .now) (refusalAt VERSION (a .side) 0) (c .refused3 .result) (c .refused3 .ensures)
+    (inr (omega arith, inr (omega arith, inl (omega arith, refl))))
+
+shared-slice-read-wires : tie.Need-shared-slice-read-wires
+shared-slice-read-wires c = search needs
+
+refused-requires-4 : tie.Need-refused-requires-4
+refused-requires-4 c κs = search needs
+
+returns-4 : tie.Need-returns-4
+returns-4 c =
+    let a = from3 (c .before .before .before) .args in
+    refusing (a .side) (a .file .now) (refusalAt WIRES (a .side) 0) (c .refused4 .result) (c .refused4 .ensures)
+    (inr (omega arith, inr (omega arith, inr (omega arith, inl (omega arith, refl)))))
+
+refused-requires-5 : tie.Need-refused-requires-5
+refused-requires-5 c κs = search needs
+
+returns-5 : tie.Need-returns-5
+returns-5 c =
+    let a = from4 (c .before .before) .args in
+    refusing (a .side) (a .file .now) (refusalAt WIRES (a .side) 0) (c .refused5 .result) (c .refused5 .ensures)
+    (inr (omega arith, inr (omega arith, inr (omega arith, inr (omega arith, inl (omega arith, refl))))))
+
+shared-slice-read-word-3 : tie.Need-shared-slice-read-word-3
+shared-slice-read-word-3 c = search needs
+
+shared-slice-read-word-4 : tie.Need-shared-slice-read-word-4
+shared-slice-read-word-4 c = search needs
+
+word-requires-2 : tie.Need-word-requires-2
+word-requires-2 c κs = search needs
+
+cast-gates : tie.Need-cast-gates
+cast-gates c = search needs
+
+refused-requires-6 : tie.Need-refused-requires-6
+refused-requires-6 c κs = search needs
+
+returns-6 : tie.Need-returns-6
+returns-6 c =
+    let a = from5 (c .before .before .before .before .before) .args in
+    refusing (a .side) (a .file .now) (refusalAt COUNT (a .side) 0) (c .refused6 .result) (c .refused6 .ensures)
+    (inr (omega arith, inr (omega arith, inr (omega arith, inr (omega arith, inr (omega arith, inl (omega arith, refl)))))))
+
+mul-if7 : tie.Need-mul-if7
+mul-if7 c = search needs
+
+add-if7 : tie.Need-add-if7
+add-if7 c = search needs
+
+refused-requires-7 : tie.Need-refused-requires-7
+refused-requires-7 c κs = search needs
+
+returns-7 : tie.Need-returns-7
+returns-7 c =
+    let a = from6 (c .before .before) .args in
+    refusing (a .side) (a .file .now) (refusalAt LENGTH (a .side) 0) (c .refused7 .result) (c .refused7 .ensures)
+    (inr (omega arith, inr (omega arith, inr (omega arith, inr (omega arith, inr (omega arith, inr (omega arith, inl (omega arith, refl))))))))
+
+first-bad-requires : tie.Need-first-bad-requires
+first-bad-requires c κs = search needs
+
+refused-requires-8 : tie.Need-refused-requires-8
+refused-requires-8 c κs = search needs
+
+returns-8 : tie.Need-returns-8
+returns-8 c =
+    let a = from7 (c .before .before .before) .args in
+    let g = c .before .before .before .before .before .word2 in
+    let b = c .before .before .first-bad in
+    refusing (a .side) (a .file .now) (refusalAt GATE (a .side) (b .result)) (c .refused8 .result) (c .refused8 .ensures)
+    (inr (omega arith, inr (omega arith, inr (omega arith, inr (omega arith, inr (omega arith, inr (omega arith, inr (omega arith, bad-gate (a .side) (a .file .now) (g .result) (b .result) (g .ensures) (b .ensures) (c .before .if8 .taken)))))))))
+
+returns-9 : tie.Need-returns-9
+returns-9 c =
+    let a = from7 (c .before .before) .args in
+    let g = c .before .before .before .before .word2 in
+    let b = c .before .first-bad in
+    answering (a .side) (a .file .now) (wiresOf (a .file .now)) (g .result) refl (g .ensures)
+    (inr (omega arith, inr (omega arith, inr (omega arith, inr (omega arith, inr (omega arith, inr (omega arith, inr (omega arith, no-bad-gate (a .side) (a .file .now) (g .result) (b .result) (g .ensures) (b .ensures) (c .if8 .left)))))))))
+
+pub read-spec : {M : Type 1} → statement M
+read-spec =
+    tie.close
+    (tie.spec
+    refused-requires
+    returns
+    shared-slice-read-mark
+    shared-slice-read-mark-2
+    shared-slice-read-mark-3
+    mark-requires
+    refused-requires-2
+    returns-2
+    shared-slice-read-word
+    shared-slice-read-word-2
+    word-requires
+    refused-requires-3
+    returns-3
+    shared-slice-read-wires
+    refused-requires-4
+    returns-4
+    refused-requires-5
+    returns-5
+    shared-slice-read-word-3
+    shared-slice-read-word-4
+    word-requires-2
+    cast-gates
+    refused-requires-6
+    returns-6
+    mul-if7
+    add-if7
+    refused-requires-7
+    returns-7
+    first-bad-requires
+    refused-requires-8
+    returns-8
+    returns-9)

@@ -1,0 +1,46 @@
+use native.Mathlib.Omega.{arith}
+use mathlib.Core.Path.{sym}
+use Rattle.circuit.specs.File.{headerBytes}
+use Rattle.circuit.proofs.Writing.{put-nothing, header-stored}
+use borrow.Author.Needs.{needs}
+use Rattle.circuit.proofs.writer.put_header.Statement.{statement}
+use Rattle.circuit.proofs.writer.put_header.Tie as tie
+
+returns : tie.Need-returns
+returns c =
+    let a = c .before .before .args in
+    sym (put-nothing (headerBytes (a .wires) (a .gates)) 0 (a .out .now) (omega arith))
+
+put-four-requires : tie.Need-put-four-requires
+put-four-requires c κs = search needs
+
+cast-put-four : tie.Need-cast-put-four
+cast-put-four c = search needs
+
+cast-put-four-2 : tie.Need-cast-put-four-2
+cast-put-four-2 c = search needs
+
+put-four-requires-2 : tie.Need-put-four-requires-2
+put-four-requires-2 c κs = search needs
+
+same-length : tie.Need-same-length
+same-length c = search needs
+
+returns-2 : tie.Need-returns-2
+returns-2 c =
+    let second = c .before .before in
+    let first = second .before .before .before .before in
+    let a = first .before .before .before .before .args in
+    header-stored (a .wires) (a .gates) (a .out .now) (first .put-four .last .0) (second .put-four2 .last .0) (omega arith) (first .put-four .ensures) (second .put-four2 .ensures)
+
+pub put-header-spec : {M : Type 1} → statement M
+put-header-spec =
+    tie.close
+    (tie.spec
+    returns
+    put-four-requires
+    cast-put-four
+    cast-put-four-2
+    put-four-requires-2
+    same-length
+    returns-2)

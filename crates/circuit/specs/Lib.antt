@@ -1,0 +1,4 @@
+pub mod Gates
+pub mod File
+pub mod Run
+pub mod Masks

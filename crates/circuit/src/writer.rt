@@ -1,0 +1,45 @@
+// A gate's four bytes and the header's eight, written.
+use crate::Gate;
+ghost use mathlib.Core.Path.{_≡_};
+ghost use mathlib.Core.List.{[], _∷_};
+ghost use Rattle.circuit.specs.Gates.{gateBytes, putAt};
+ghost use Rattle.circuit.specs.File.{headerBytes};
+
+// Four bytes at `at`; where they do not all fit, nothing is written.
+pub fn put_four(out: &mut [u8], at: usize, a: u8, b: u8, c: u8, d: u8)
+    ensures { λ _. ⌜ now (out .exit) ≡ putAt (a ∷ b ∷ c ∷ d ∷ []) at (now (out .entry)) ⌝ }
+{
+    if out.len() < 4 {
+        return;
+    }
+    if out.len() - 4 < at {
+        return;
+    }
+    out[at] = a;
+    out[at + 1] = b;
+    out[at + 2] = c;
+    out[at + 3] = d;
+}
+
+// A gate's four bytes at `at`; where they do not all fit, nothing is written.
+pub fn put_gate(gate: Gate, out: &mut [u8], at: usize)
+    ensures { λ _. ⌜ now (out .exit) ≡ putAt (gateBytes gate) at (now (out .entry)) ⌝ }
+{
+    match gate {
+        Gate::Cnot { control, target } => put_four(out, at, 1, control, target, 0),
+        Gate::Phase { wire, angle } => {
+            put_four(out, at, 2, wire, (angle / 256) as u8, (angle % 256) as u8)
+        }
+    }
+}
+
+// A file's header at the front; where it does not fit, nothing is written.
+pub fn put_header(wires: u8, gates: u16, out: &mut [u8])
+    ensures { λ _. ⌜ now (out .exit) ≡ putAt (headerBytes wires gates) 0 (now (out .entry)) ⌝ }
+{
+    if out.len() < 8 {
+        return;
+    }
+    put_four(out, 0, 0x50, 0x48, 0x47, 0);
+    put_four(out, 4, 1, wires, (gates / 256) as u8, (gates % 256) as u8)
+}

@@ -1,0 +1,35 @@
+-- Where every check passes: each test fails, and the other way round.
+use mathlib.Core.Path.{_≡_, refl}
+use native.Mathlib.Omega.{arith}
+use Prim.Native.Nat.{ℕ}
+use mathlib.Core.Bool.{Bool, true, false}
+use mathlib.Core.List.{List, [], _∷_}
+use borrow.Author.Tests.{ltb-false, leb-false, eqb-false, eqb-true, not-false}
+use lib.Dec.{eqb}
+use Rattle.refusal.specs.Checks.{Test, less, atLeast, same, other, holds, Check, passed, refused, ifHolds, outcome}
+use Rattle.refusal.proofs.Outcomes.{Fails, holds-false}
+
+abbrev pub AllFail : List Check → Type 0
+AllFail [] = Unit {0}
+AllFail (c ∷ cs) = Fails (c .when) × AllFail cs
+
+fails : (t : Test) → holds t ≡ false → Fails t
+fails (less a b) e = ltb-false a b e
+fails (atLeast a b) e = leb-false b a e
+fails (same a b) e = eqb-false a b e
+fails (other a b) e = eqb-true a b (not-false (eqb a b) e)
+
+-- what callers of an operation know where it answers
+pub passed-fail : (cs : List Check) → outcome cs ≡ passed → AllFail cs
+unfolding outcome
+passed-fail [] e = tt
+passed-fail (c ∷ cs) e = by (holds (c .when)) refl e (passed-fail cs)
+  where
+    by : (b : Bool) → holds (c .when) ≡ b → ifHolds b (refused (c .gives)) (outcome cs) ≡ passed → (outcome cs ≡ passed → AllFail cs) → Fails (c .when) × AllFail cs
+    by true p q rest = let z : _≡_ {A = ℕ} 0 1 = cc in absurd (omega arith)
+    by false p q rest = (fails (c .when) p, rest q)
+
+pub fail-passed : (cs : List Check) → AllFail cs → outcome cs ≡ passed
+unfolding outcome
+fail-passed [] h = refl
+fail-passed (c ∷ cs) h = rw (holds-false (c .when) (h .0)) (fail-passed cs (h .1))
