@@ -22,7 +22,7 @@ use Rattle.circuit.specs.declared.Counted.the-variants.{Gates, Refused a
 use Rattle.circuit.specs.Gates.{decoded}
 use Rattle.circuit.specs.File.{wiresOf, countOf, gatesOf, fileChecks, readingSays}
 use Rattle.circuit.specs.Run.{endFrom, phaseFrom, runChecks, ranSays, cnots, phases, score, countedSays}
-use Rattle.circuit.proofs.Checking.{ReadSays}
+use Rattle.circuit.proofs.Files.{ReadSays}
 
 abbrev stateCheck : List ℕ → ℕ → List Check
 stateCheck f start = check (atLeast start (2 ^ wiresOf f)) (refusal STATE) ∷ []

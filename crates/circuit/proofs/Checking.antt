@@ -7,16 +7,14 @@ use mathlib.Core.List.{List, [], _∷_}
 use lib.ListN.{drop}
 use Rattle.refusal.specs.declared.Refusal.{Refusal}
 use Rattle.refusal.specs.Names.{refusalAt, GATE}
-use Rattle.refusal.specs.Checks.{Check, check, less, passed, refused, outcome}
-use Rattle.refusal.specs.Contract.{Says, values}
+use Rattle.refusal.specs.Checks.{Check, check, less, passed, refused}
+use Rattle.refusal.specs.Contract.{values}
 use Rattle.refusal.proofs.Outcomes.{Reaches, reaches}
 use Rattle.circuit.specs.declared.Reading.{Reading}
 use Rattle.circuit.specs.declared.Reading.the-variants.{Circuit, Refused}
 use Rattle.circuit.specs.Gates.{firstBad}
-use Rattle.circuit.specs.File.{wiresOf, countOf, badOf, fileChecks, readingSays}
-
-abbrev pub ReadSays : ℕ → List ℕ → Reading → Type 0
-ReadSays s f r = Says readingSays (outcome (fileChecks s f)) (wiresOf f ∷ countOf f ∷ []) r
+use Rattle.circuit.specs.File.{wiresOf, countOf, badOf, fileChecks}
+use Rattle.circuit.proofs.Files.{ReadSays}
 
 pub refusing : (s : ℕ) (f : List ℕ) (x : Refusal) (r : Reading) → r ≡ Refused x → Reaches (fileChecks s f) (refused x) → ReadSays s f r
 refusing s f x r e h = rw (e, reaches (fileChecks s f) (refused x) h)

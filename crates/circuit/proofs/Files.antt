@@ -175,6 +175,10 @@ module _ (f : List ℕ) (bytes : Bytes f) (h : GoodFile f) where
   pub gates-end : (i : ℕ) → countOf f ≤ i → drop i (gatesOf f) ≡ []
   gates-end i k = drop-of-length-le (gatesOf f) {i = i} (omega (arith, length-gates))
 
+-- the reader's contract
+abbrev pub ReadSays : ℕ → List ℕ → Reading → Type 0
+ReadSays s f r = Says readingSays (outcome (fileChecks s f)) (wiresOf f ∷ countOf f ∷ []) r
+
 -- what a caller of the reader knows when it answers
 pub record Answered (s : ℕ) (f : List ℕ) (w g : ℕ) : Type 0 where
   pub passes : outcome (fileChecks s f) ≡ passed
@@ -182,7 +186,7 @@ pub record Answered (s : ℕ) (f : List ℕ) (w g : ℕ) : Type 0 where
   pub wires : w ≡ wiresOf f
   pub count : g ≡ countOf f
 
-module _ (s : ℕ) (f : List ℕ) (r : Reading) (says : Says readingSays (outcome (fileChecks s f)) (wiresOf f ∷ countOf f ∷ []) r) where
+module _ (s : ℕ) (f : List ℕ) (r : Reading) (says : ReadSays s f r) where
   pub read-answers : (w g : ℕ) → r ≡ Circuit w g → Answered s f w g
   read-answers w g e =
       let v = says-values (outcome (fileChecks s f)) (wiresOf f ∷ countOf f ∷ []) (w ∷ g ∷ []) (rw e at says) in

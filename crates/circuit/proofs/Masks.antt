@@ -20,6 +20,7 @@ use Rattle.circuit.specs.declared.Met.the-variants.{Mask}
 use Rattle.circuit.specs.Gates.{Sound, AllSound}
 use Rattle.circuit.specs.Run.{stepped, endFrom, totalFrom, phaseFrom}
 use Rattle.circuit.specs.Masks.{ownMasks, powers, masksAfter, met, masksFrom, metBy, sumMet, totalBy}
+use Rattle.circuit.proofs.Decoding.{sound-parts}
 use Rattle.circuit.proofs.Runs.{start-of}
 
 -- the recursion, where its definition is shut
@@ -120,6 +121,10 @@ module _ (w : ℕ) (gs : List Gate) (h : AllSound w gs) where
       let one : bit (2 ^ i) i ≡ 1 = ap (λ (n : ℕ). bit n i) (sym (one-mul (2 ^ i))) ∙ bit-own 1 i (omega arith) in
       let none : bit (2 ^ i) i ≡ 0 = ap (λ (n : ℕ). bit n i) (sym (r .1)) ∙ wire-parity (r .0) i k ∙ ap (λ (m : ℕ). dot m (r .0)) e ∙ dot-none (r .0) in
       omega arith
+
+-- so it is after any beginning of a sound circuit
+pub prefix-parity : (w : ℕ) (xs ys : List Gate) → AllSound w (xs ++ ys) → (x i : ℕ) → i < w → bit (endFrom xs x) i ≡ dot (getD (masksFrom xs (ownMasks w)) i 0) x
+prefix-parity w xs ys h = wire-parity w xs (sound-parts w xs ys h .0)
 
 -- masks are below 2^w
 abbrev pub MasksBelow : ℕ → List ℕ → Type 0

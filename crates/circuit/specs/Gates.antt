@@ -1,7 +1,7 @@
 -- 01, "Circuit file": a gate's four bytes, which of them are bad, and the gates of a row of bytes.
 use Prim.Native.Nat.{ℕ, zero, suc, _+_, _*_, _/_, _%_, _<_}
 use mathlib.Core.Path.{_≡_}
-use mathlib.Core.Bool.{Bool, true, false}
+use mathlib.Core.Bool.{Bool, true, false, cond}
 use mathlib.Core.List.{List, [], _∷_, _++_}
 use lib.Dec.{ltb, leb, eqb}
 use lib.ListN.{length, getD, take, drop}
@@ -61,13 +61,9 @@ unfoldable pub bytesOf : List Gate → List ℕ
 bytesOf [] = []
 bytesOf (g ∷ gs) = gateBytes g ++ bytesOf gs
 
-abbrev pub chosen : Bool → List ℕ → List ℕ → List ℕ
-chosen true a b = a
-chosen false a b = b
-
 -- bytes written at a place of a slice: all of them where they fit ("Success writes only the result"), else none
 abbrev pub putAt : List ℕ → ℕ → List ℕ → List ℕ
-putAt bs at out = chosen (leb (at + length bs) (length out)) (take at out ++ bs ++ drop (at + length bs) out) out
+putAt bs at out = cond (leb (at + length bs) (length out)) (take at out ++ bs ++ drop (at + length bs) out) out
 
 -- a gate that the decoder can answer on w wires
 abbrev pub Sound : ℕ → Gate → Type 0

@@ -6,7 +6,7 @@ ghost use Rattle.circuit.specs.Gates.{gateBytes, putAt};
 ghost use Rattle.circuit.specs.File.{headerBytes};
 
 // Four bytes at `at`; where they do not all fit, nothing is written.
-pub fn put_four(out: &mut [u8], at: usize, a: u8, b: u8, c: u8, d: u8)
+fn put_four(out: &mut [u8], at: usize, a: u8, b: u8, c: u8, d: u8)
     ensures { λ _. ⌜ now (out .exit) ≡ putAt (a ∷ b ∷ c ∷ d ∷ []) at (now (out .entry)) ⌝ }
 {
     if out.len() < 4 {

@@ -7,7 +7,7 @@ use native.Mathlib.Omega.{arith}
 use mathlib.Core.Path.{_≡_, refl, sym, ap, ap₂, _∙_}
 use lib.Arith.{bin-ind}
 use lib.Pow.{pow-pos, pow-lt, pow-add, shl-shr, shr-shr, split}
-use lib.Bits.{differ, bitXor, xor-step, xor-shr, xor-block, xor-zero-l, xor-comm, shifted-even}
+use lib.Bits.{differ, bitXor, xor-step, xor-shr, xor-block, xor-lt, xor-zero-l, xor-comm, shifted-even}
 use Rattle.numbers.specs.Bits.{bit, dot}
 use Rattle.numbers.proofs.Sums.{Adds}
 use Rattle.numbers.proofs.Parity.{dot-below, dot-none, dot-step, dot-block}
@@ -20,17 +20,17 @@ bits-differ (suc zero) (suc (suc b)) h k = absurd (omega arith)
 bits-differ (suc (suc a)) b h k = absurd (omega arith)
 
 -- the lowest bit of an exclusive or, and the others
-pub xor-low : (a b : ℕ) → bitXor a b % 2 ≡ (a + b) % 2
-xor-low a b =
+xor-digits : (a b : ℕ) → (bitXor a b % 2 ≡ (a + b) % 2) × (bitXor a b / 2 ≡ bitXor (a / 2) (b / 2))
+xor-digits a b =
     let e = xor-step a b in
     let d = bits-differ (a % 2) (b % 2) (omega arith) (omega arith) in
     omega arith
 
+pub xor-low : (a b : ℕ) → bitXor a b % 2 ≡ (a + b) % 2
+xor-low a b = xor-digits a b .0
+
 pub xor-half : (a b : ℕ) → bitXor a b / 2 ≡ bitXor (a / 2) (b / 2)
-xor-half a b =
-    let e = xor-step a b in
-    let d = bits-differ (a % 2) (b % 2) (omega arith) (omega arith) in
-    omega arith
+xor-half a b = xor-digits a b .1
 
 pub bit-xor : (a b i : ℕ) → bit (bitXor a b) i ≡ (bit a i + bit b i) % 2
 bit-xor a b i = ap (_% 2) (xor-shr a b i) ∙ xor-low (a / 2 ^ i) (b / 2 ^ i) ∙ add-mod (a / 2 ^ i) (b / 2 ^ i) 2
@@ -83,11 +83,10 @@ xor-weights p q t hp hq =
     ap₂ bitXor (sym (add-zero (p * 2 ^ t))) (sym (add-zero (q * 2 ^ t))) ∙ xor-block t p q 0 0 (pow-pos t) (pow-pos t) ∙ add-zero (bitXor p q * 2 ^ t) ∙ ap (_* 2 ^ t) (one-bit p q hp hq)
   where
     one-bit : (p q : ℕ) → p < 2 → q < 2 → bitXor p q ≡ (p + q) % 2
-    one-bit zero q hp hq = xor-zero-l q ∙ omega arith
-    one-bit (suc zero) zero hp hq = refl
-    one-bit (suc zero) (suc zero) hp hq = refl
-    one-bit (suc zero) (suc (suc q)) hp hq = absurd (omega arith)
-    one-bit (suc (suc p)) q hp hq = absurd (omega arith)
+    one-bit p q hp hq =
+        let l = xor-lt 1 p q hp hq in
+        let e = xor-low p q in
+        omega arith
 
 -- numbers of w bits are the same where their bits are
 pub same-bits : (w a b : ℕ) → a < 2 ^ w → b < 2 ^ w → ((i : ℕ) → i < w → bit a i ≡ bit b i) → a ≡ b
