@@ -3,6 +3,7 @@ pub mod Lists
 pub mod Parts
 pub mod Integers
 pub mod Turns
+pub mod Angles
 pub mod Parity
 pub mod Wires
 pub mod Powers

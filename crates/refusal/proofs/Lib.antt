@@ -1,3 +1,4 @@
 pub mod Outcomes
 pub mod Passed
 pub mod Contracts
+pub mod Rooms

@@ -4,6 +4,7 @@ use mathlib.Core.Bool.{Bool, true, false, not}
 use mathlib.Core.List.{List, [], _∷_}
 use lib.Dec.{ltb, leb, eqb}
 use Rattle.refusal.specs.declared.Refusal.{Refusal}
+use Rattle.refusal.specs.Names.{refusal, ROOM}
 
 -- a row's condition: one number is less than, at least, the same as, or other than another
 pub data Test : Type 0 where
@@ -44,3 +45,7 @@ outcome (c ∷ cs) = ifHolds (holds (c .when)) (refused (c .gives)) (outcome cs)
 abbrev pub settle {ℓ} : {A : Type ℓ} → Outcome → (Refusal → A) → A → A
 settle passed onRefusal onPass = onPass
 settle (refused r) onRefusal onPass = onRefusal r
+
+-- "13 ROOM": a lent slice is shorter than what is needed
+abbrev pub roomCheck : ℕ → ℕ → List Check
+roomCheck room need = check (less room need) (refusal ROOM) ∷ []

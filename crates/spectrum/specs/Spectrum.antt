@@ -5,8 +5,7 @@ use lib.IntN.{ℤ, pos, _*ℤ_}
 use Rattle.numbers.specs.Bits.{dot}
 use Rattle.numbers.specs.Sums.{sumℤ, list}
 use Rattle.numbers.specs.Turn.{wrap, flip}
-use Rattle.refusal.specs.Names.{refusal, ROOM}
-use Rattle.refusal.specs.Checks.{Check, check, less}
+use Rattle.refusal.specs.Checks.{Check, roomCheck}
 use Rattle.refusal.specs.Contract.{Said, values, saidOf}
 use Rattle.table.specs.Table.{tableChecks, valueAt}
 use Rattle.spectrum.specs.declared.Transformed.{Transformed}
@@ -29,7 +28,7 @@ theta n f k = angle n (coefficient n f k)
 
 -- rows 1 to 3, then 13 where out is shorter than 2^n
 abbrev pub spectrumChecks : ℕ → List ℕ → ℕ → List Check
-spectrumChecks n t room = tableChecks n t ++ (check (less room (2 ^ n)) (refusal ROOM) ∷ [])
+spectrumChecks n t room = tableChecks n t ++ roomCheck room (2 ^ n)
 
 -- the answer is the number of entries written
 abbrev pub transformedSays : Transformed → Said

@@ -1,0 +1,154 @@
+-- Construction 1 as a gate list: how long it is, that it is sound, that its wires are restored, and which masks it meets.
+use Prim.Native.Nat.{ℕ, zero, suc, _+_, _-_, _*_, _^_, _<_, _≤_}
+use native.Mathlib.Nat.{add-zero, zero-add, add-assoc, add-comm, mod-lt, zero-mul, suc-mul, two-pow-succ}
+use native.Mathlib.Omega.{arith}
+use mathlib.Core.Path.{_≡_, refl, sym, ap, ap₂, _∙_}
+use mathlib.Core.List.{List, [], _∷_, _++_}
+use lib.ListN.{length, length-append}
+use lib.Pow.{pow-add, pow-mono}
+use lib.IntN.{pos, _*ℤ_}
+use Rattle.numbers.specs.Sums.{sum}
+use Rattle.numbers.proofs.Sums.{ℕ-adds, sumOf-map, sumOf-ext, sumOf-split}
+use Rattle.numbers.proofs.Lists.{getD-list}
+use Rattle.numbers.proofs.Turns.{wrap-below}
+use Rattle.spectrum.specs.Spectrum.{coefficient, theta}
+use Rattle.circuit.specs.declared.Gate.{Gate}
+use Rattle.circuit.specs.declared.Gate.the-variants.{Phase}
+use Rattle.circuit.specs.Gates.{AllSound}
+use Rattle.circuit.specs.Masks.{ownMasks, masksFrom, sumMet}
+use Rattle.circuit.proofs.Decoding.{sound-cons, sound-append}
+use Rattle.circuit.proofs.Masks.{masks-none, masks-cons, masks-append, sum-none, sum-cons, sum-append}
+use Rattle.build.specs.Gray.{word}
+use Rattle.build.specs.Construction.{inTurn, cnotAfter, block, minus, firstQuarter, variables, target, parts, construction}
+use Rattle.build.proofs.Gray.{turned-below, word-below}
+use Rattle.build.proofs.Blocks.{block-masks, block-sum}
+
+-- ---- how many gates
+
+pub length-inTurn : (m : ℕ) (F : ℕ → List Gate) → length (inTurn m F) ≡ sum m (λ k. length (F k))
+length-inTurn m F = sumOf-map [] _++_ 0 _+_ length refl length-append m F
+
+pub sum-same : (m c : ℕ) → sum m (λ k. c) ≡ m * c
+sum-same zero c = sym (zero-mul c)
+sum-same (suc m) c = ap (_+ c) (sum-same m c) ∙ sym (suc-mul m c)
+
+pub length-first : (angleAt : ℕ → ℕ) → length (block 0 angleAt) ≡ 1
+length-first angleAt = refl
+
+pub length-block : (j : ℕ) (angleAt : ℕ → ℕ) → length (block (suc j) angleAt) ≡ 2 ^ suc j * 2
+length-block j angleAt = length-inTurn (2 ^ suc j) (λ k. Phase (suc j) (angleAt (word (suc j) k)) ∷ cnotAfter (suc j) k) ∙ sum-same (2 ^ suc j) 2
+
+pub length-variables : (m : ℕ) (angleAt : ℕ → ℕ) → length (variables (suc m) angleAt) + 3 ≡ 2 ^ suc (suc m)
+length-variables zero angleAt = refl
+length-variables (suc m) angleAt =
+    ap (_+ 3) (length-append (variables (suc m) angleAt) (block (suc m) (λ v. angleAt (2 ^ suc m + v))))
+    ∙ omega (arith, length-variables m angleAt, length-block m (λ (v : ℕ). angleAt (2 ^ suc m + v)))
+
+-- "The gates number 2^(n+2) - 2", whatever the angles
+pub length-parts : (m : ℕ) (a b : ℕ → ℕ) → length (parts (suc m) a b) + 2 ≡ 2 ^ (suc m + 2)
+length-parts m a b =
+    ap (_+ 2) (length-append (firstQuarter (suc m) ++ variables (suc m) a) (block (suc m) b) ∙ ap (_+ length (block (suc m) b)) (length-append (firstQuarter (suc m)) (variables (suc m) a)))
+    ∙ omega (arith, length-variables m a, length-block m b, pow-add 2 (suc m) 2)
+
+pub length-construction : (m : ℕ) (f : ℕ → ℕ) → length (construction (suc m) f) + 2 ≡ 2 ^ (suc m + 2)
+unfolding construction
+length-construction m f = length-parts m (theta (suc m) f) (λ v. minus (theta (suc m) f v))
+
+-- ---- sound on n + 1 wires
+
+sound-inTurn : (w m : ℕ) (F : ℕ → List Gate) → ((k : ℕ) → k < m → AllSound w (F k)) → AllSound w (inTurn m F)
+unfolding AllSound
+sound-inTurn w zero F h = tt
+sound-inTurn w (suc m) F h = sound-append w (inTurn m F) (F m) (sound-inTurn w m F (λ k l. h k (omega arith))) (h m (omega arith))
+
+abbrev Angles : (ℕ → ℕ) → Type 0
+Angles angleAt = (v : ℕ) → angleAt v < 65536
+
+sound-cnot : (w i k : ℕ) → i < w → k < 2 ^ i → AllSound w (cnotAfter i k)
+unfolding AllSound
+sound-cnot w zero k h l = tt
+sound-cnot w (suc j) k h l = ((omega (arith, turned-below j k l), h, omega (arith, turned-below j k l)), tt)
+
+pub sound-block : (w i : ℕ) (angleAt : ℕ → ℕ) → i < w → Angles angleAt → AllSound w (block i angleAt)
+sound-block w i angleAt h a =
+    sound-inTurn w (2 ^ i) (λ k. Phase i (angleAt (word i k)) ∷ cnotAfter i k)
+    (λ k l. sound-cons w (Phase i (angleAt (word i k))) (cnotAfter i k) (h, a (word i k)) (sound-cnot w i k h l))
+
+pub theta-below : (n : ℕ) (f : ℕ → ℕ) (k : ℕ) → theta n f k < 65536
+theta-below n f k = wrap-below (coefficient n f k *ℤ pos (2 ^ (14 - n)))
+
+pub sound-construction : (n : ℕ) (f : ℕ → ℕ) → AllSound (n + 1) (construction n f)
+unfolding construction AllSound
+sound-construction n f =
+    let θ = theta n f in
+    sound-append (n + 1) (firstQuarter n) (variables n θ ++ target n θ) ((omega arith, omega arith), tt)
+    (sound-append (n + 1) (variables n θ) (target n θ)
+    (sound-inTurn (n + 1) n (λ i. block i (λ v. θ (2 ^ i + v))) (λ i h. sound-block (n + 1) i (λ v. θ (2 ^ i + v)) (omega arith) (λ v. theta-below n f (2 ^ i + v))))
+    (sound-block (n + 1) n (λ v. minus (θ v)) (omega arith) (λ v. mod-lt (65536 - θ v) (omega arith))))
+
+-- ---- the masks
+
+variables-masks : (w n : ℕ) (angleAt : ℕ → ℕ) → n ≤ w → masksFrom (variables n angleAt) (ownMasks w) ≡ ownMasks w
+variables-masks w zero angleAt h = masks-none (ownMasks w)
+variables-masks w (suc n) angleAt h =
+    masks-append (variables n angleAt) (block n (λ v. angleAt (2 ^ n + v))) (ownMasks w)
+    ∙ ap (masksFrom (block n (λ v. angleAt (2 ^ n + v)))) (variables-masks w n angleAt (omega arith)) ∙ block-masks w n (omega arith) (λ v. angleAt (2 ^ n + v))
+
+-- the blocks' masks are all numbers from 1 on, each once
+blocks-merge : (n : ℕ) (F : ℕ → ℕ) → F 0 + sum n (λ i. sum (2 ^ i) (λ v. F (2 ^ i + v))) ≡ sum (2 ^ n) F
+blocks-merge zero F = add-comm (F 0) 0
+blocks-merge (suc n) F =
+    sym (add-assoc (F 0) (sum n (λ i. sum (2 ^ i) (λ v. F (2 ^ i + v)))) (sum (2 ^ n) (λ v. F (2 ^ n + v))))
+    ∙ ap (_+ sum (2 ^ n) (λ v. F (2 ^ n + v))) (blocks-merge n F) ∙ sym (ap (λ (m : ℕ). sum m F) (two-pow-succ n) ∙ sumOf-split 0 _+_ ℕ-adds (2 ^ n) (2 ^ n) F)
+
+variables-sum : (w n : ℕ) (angleAt : ℕ → ℕ) (g : ℕ → ℕ → ℕ) → n ≤ w
+    → sumMet g (variables n angleAt) (ownMasks w) ≡ sum n (λ i. sum (2 ^ i) (λ v. g (2 ^ i + v) (angleAt (2 ^ i + v))))
+variables-sum w zero angleAt g h = sum-none g (ownMasks w)
+variables-sum w (suc n) angleAt g h =
+    sum-append g (variables n angleAt) (block n (λ v. angleAt (2 ^ n + v))) (ownMasks w)
+    ∙ ap₂ _+_ (variables-sum w n angleAt g (omega arith))
+    (ap (sumMet g (block n (λ v. angleAt (2 ^ n + v)))) (variables-masks w n angleAt (omega arith)) ∙ block-sum w n (omega arith) (λ v. angleAt (2 ^ n + v)) g)
+
+module _ (n : ℕ) (f : ℕ → ℕ) where
+  abbrev own : List ℕ
+  own = ownMasks (n + 1)
+
+  -- "The wires are restored": every wire ends on its own mask
+  pub construction-masks : masksFrom (construction n f) own ≡ own
+  unfolding construction
+  construction-masks =
+      let θ = theta n f in
+      masks-append (firstQuarter n) (variables n θ ++ target n θ) own
+      ∙ ap (masksFrom (variables n θ ++ target n θ)) (masks-cons (Phase n 16384) [] own ∙ masks-none own)
+      ∙ masks-append (variables n θ) (target n θ) own ∙ ap (masksFrom (target n θ)) (variables-masks (n + 1) n θ (omega arith))
+      ∙ block-masks (n + 1) n (omega arith) (λ v. minus (θ v))
+
+  -- a sum over its phase gates: the first quarter turn, every k from 1 on with theta at k, and every 2^n + v with minus theta at v
+  pub construction-sum : (g : ℕ → ℕ → ℕ) → g 0 (theta n f 0) ≡ 0
+      → sumMet g (construction n f) own ≡ g (2 ^ n) 16384 + (sum (2 ^ n) (λ k. g k (theta n f k)) + sum (2 ^ n) (λ v. g (2 ^ n + v) (minus (theta n f v))))
+  unfolding construction
+  construction-sum g e =
+      let θ = theta n f in
+      sum-append g (firstQuarter n) (variables n θ ++ target n θ) own
+      ∙ ap₂ _+_
+      (sum-cons g (Phase n 16384) [] own ∙ ap₂ _+_ (ap (λ (m : ℕ). g m 16384) (getD-list (n + 1) (λ j. 2 ^ j) n 0 (omega arith))) (sum-none g own) ∙ add-zero (g (2 ^ n) 16384))
+      (ap (sumMet g (variables n θ ++ target n θ)) (masks-cons (Phase n 16384) [] own ∙ masks-none own)
+      ∙ sum-append g (variables n θ) (target n θ) own
+      ∙ ap₂ _+_
+      (variables-sum (n + 1) n θ g (omega arith) ∙ sym (ap (_+ sum n (λ i. sum (2 ^ i) (λ v. g (2 ^ i + v) (θ (2 ^ i + v))))) e ∙ zero-add (sum n (λ i. sum (2 ^ i) (λ v. g (2 ^ i + v) (θ (2 ^ i + v))))))
+      ∙ blocks-merge n (λ k. g k (θ k)))
+      (ap (sumMet g (target n θ)) (variables-masks (n + 1) n θ (omega arith)) ∙ block-sum (n + 1) n (omega arith) (λ v. minus (θ v)) g))
+
+-- ---- the angles count only where there are words
+
+block-same : (i : ℕ) (a b : ℕ → ℕ) → ((v : ℕ) → v < 2 ^ i → a v ≡ b v) → block i a ≡ block i b
+block-same i a b h =
+    sumOf-ext [] _++_ (2 ^ i) (λ k. Phase i (a (word i k)) ∷ cnotAfter i k) (λ k. Phase i (b (word i k)) ∷ cnotAfter i k)
+    (λ k l. ap (λ (x : ℕ). Phase i x ∷ cnotAfter i k) (h (word i k) (word-below i k l)))
+
+pub parts-same : (n : ℕ) (a b c d : ℕ → ℕ) → ((k : ℕ) → k < 2 ^ n → a k ≡ c k) → ((k : ℕ) → k < 2 ^ n → b k ≡ d k) → parts n a b ≡ parts n c d
+parts-same n a b c d h k =
+    ap₂ (λ (x y : List Gate). firstQuarter n ++ x ++ y)
+    (sumOf-ext [] _++_ n (λ i. block i (λ v. a (2 ^ i + v))) (λ i. block i (λ v. c (2 ^ i + v)))
+    (λ i l. block-same i (λ v. a (2 ^ i + v)) (λ v. c (2 ^ i + v)) (λ v q. h (2 ^ i + v) (omega (arith, pow-mono {i = suc i} {j = n} l)))))
+    (block-same n b d k)

@@ -1,0 +1,10 @@
+pub mod Gray
+pub mod Blocks
+pub mod Circuits
+pub mod Oracle
+pub mod Wrapping
+pub mod Pieces
+pub mod Assembly
+pub mod Oracles
+pub mod Answers
+pub mod Cases

@@ -1,0 +1,52 @@
+-- What the built file is: well formed, of the length that is answered, and its table's oracle.
+use Prim.Native.Nat.{ℕ, zero, suc, _+_, _-_, _*_, _%_, _^_, _<_, _≤_}
+use native.Mathlib.Omega.{arith}
+use mathlib.Core.Path.{_≡_, ap, _∙_}
+use mathlib.Core.List.{List}
+use lib.ListN.{length}
+use lib.Arith.{digits-lt}
+use lib.Pow.{pow-add, pow-mono}
+use Rattle.refusal.specs.Checks.{passed, outcome}
+use Rattle.table.specs.Table.{valueAt}
+use Rattle.circuit.specs.Run.{endFrom, phaseFrom}
+use Rattle.circuit.specs.File.{wiresOf, countOf, gatesOf, fileChecks}
+use Rattle.circuit.proofs.Files.{length-file, wires-written, count-written, list-written, written-passes}
+use Rattle.build.specs.Construction.{construction, builtFile}
+use Rattle.build.proofs.Circuits.{length-construction, sound-construction}
+use Rattle.build.proofs.Oracle.{construction-ends, oracle-phase}
+
+count-is : (n : ℕ) (f : ℕ → ℕ) → 0 < n → length (construction n f) + 2 ≡ 2 ^ (n + 2)
+count-is zero f p = absurd (omega arith)
+count-is (suc m) f p = length-construction m f
+
+-- "the file is 2^(n+4) bytes"
+pub built-long : (n : ℕ) (t : List ℕ) → 0 < n → length (builtFile n t) ≡ 2 ^ (n + 4)
+built-long n t p = omega (arith, length-file (n + 1) (construction n (valueAt t)), count-is n (valueAt t) p, pow-add 2 n 2, pow-add 2 n 4)
+
+module _ (n : ℕ) (t : List ℕ) (p : 0 < n) (small : n ≤ 8) where
+  few-gates : length (construction n (valueAt t)) ≤ 2048
+  few-gates = omega (arith, count-is n (valueAt t) p, pow-mono {i = n + 2} {j = 10} (omega arith))
+
+  -- read accepts it, with n + 1 wires and 2^(n+2) - 2 gates
+  pub built-passes : (side : ℕ) → outcome (fileChecks side (builtFile n t)) ≡ passed
+  built-passes side = written-passes (n + 1) (construction n (valueAt t)) side (omega arith) (omega arith) (sound-construction n (valueAt t)) few-gates
+
+  pub built-wires : wiresOf (builtFile n t) ≡ n + 1
+  built-wires = wires-written (n + 1) (construction n (valueAt t))
+
+  pub built-count : countOf (builtFile n t) ≡ 2 ^ (n + 2) - 2
+  built-count = count-written (n + 1) (construction n (valueAt t)) ∙ omega (arith, count-is n (valueAt t) p)
+
+  pub built-gates : gatesOf (builtFile n t) ≡ construction n (valueAt t)
+  built-gates = list-written (n + 1) (construction n (valueAt t)) (sound-construction n (valueAt t))
+
+  start-below : (x y : ℕ) → x < 2 ^ n → y < 2 → x + y * 2 ^ n < 2 ^ (n + 1)
+  start-below x y hx hy = omega (arith, digits-lt {q = y} {m = 2} {r = x} {c = 2 ^ n} hy hx, pow-add 2 n 1)
+
+  -- its run from x + y 2^n ends where it starts, with phase 32,768 f(x) y
+  pub built-run : (x y : ℕ) → x < 2 ^ n → y < 2
+      → (endFrom (gatesOf (builtFile n t)) (x + y * 2 ^ n) ≡ x + y * 2 ^ n) × (phaseFrom (gatesOf (builtFile n t)) (x + y * 2 ^ n) ≡ 32768 * valueAt t x * y % 65536)
+  built-run x y hx hy = (
+    ap (λ gs. endFrom gs (x + y * 2 ^ n)) built-gates ∙ construction-ends n (valueAt t) (x + y * 2 ^ n) (start-below x y hx hy),
+    ap (λ gs. phaseFrom gs (x + y * 2 ^ n)) built-gates ∙ oracle-phase n (valueAt t) x y small hx hy (omega arith) .turned,
+  )
