@@ -9,3 +9,5 @@ pub mod Masks
 pub mod Runs
 mod Stepping
 pub mod Writing
+pub mod CountAnswers
+pub mod Groups

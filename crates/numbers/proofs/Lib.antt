@@ -7,3 +7,4 @@ pub mod Angles
 pub mod Parity
 pub mod Wires
 pub mod Powers
+pub mod Singles

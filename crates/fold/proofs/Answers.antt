@@ -1,0 +1,101 @@
+-- The operation's three ways out, and that it has one answer and one slice.
+use Prim.Native.Nat.{ℕ, _+_, _*_, _^_, _<_, _≤_}
+use native.Mathlib.Nat.{zero-add}
+use native.Mathlib.Omega.{arith}
+use mathlib.Core.Path.{_≡_, refl, sym, ap, _∙_}
+use mathlib.Core.Logic.{inl, inr}
+use mathlib.Core.List.{List, [], _∷_, _++_}
+use lib.ListN.{length, getD, drop}
+use Rattle.numbers.specs.Sums.{sum}
+use Rattle.numbers.proofs.Sums.{sumOf-ext}
+use Rattle.refusal.specs.declared.Refusal.{Refusal}
+use Rattle.refusal.specs.Names.{refusal, ROOM}
+use Rattle.refusal.specs.Checks.{Check, check, less, passed, refused, outcome}
+use Rattle.refusal.specs.Contract.{values, Meets}
+use Rattle.refusal.proofs.Outcomes.{reaches, then-refused, then-passed}
+use Rattle.refusal.proofs.Contracts.{Distinct, same-refusal, one-answer, meets-refused, meets-passed}
+use Rattle.circuit.specs.Gates.{bytesOf, putAt}
+use Rattle.circuit.specs.File.{wiresOf, gatesOf, fileChecks, fileOf, headerBytes}
+use Rattle.circuit.specs.Run.{cnots, score}
+use Rattle.circuit.proofs.Decoding.{Bytes}
+use Rattle.circuit.proofs.Files.{good-file}
+use Rattle.circuit.proofs.Writing.{put-fits, put-put}
+use Rattle.fold.specs.declared.Folded.{Folded}
+use Rattle.fold.specs.declared.Folded.the-variants.{File, Refused}
+use Rattle.fold.specs.Fold.{groupTotal, folded, foldedFile, foldChecks, foldedSays}
+use Rattle.fold.specs.Totals.{Totals, nonzero, nonzeros}
+use Rattle.fold.proofs.Scores.{score-of-totals, length-folded}
+use Rattle.fold.proofs.Files.{few-gates, length-folded-file}
+
+abbrev foldValues : List ℕ → List ℕ
+foldValues f = length (foldedFile f) ∷ score (gatesOf f) ∷ score (folded (wiresOf f) (gatesOf f)) ∷ []
+
+-- the contract of `fold`
+abbrev pub Folds : List ℕ → List ℕ → Folded → List ℕ → Type 0
+Folds f before answer after = Meets foldedSays (outcome (foldChecks f (length before))) (foldValues f) (foldedFile f) before answer after
+
+abbrev roomCheck : List ℕ → ℕ → List Check
+roomCheck f room = check (less room (length (foldedFile f))) (refusal ROOM) ∷ []
+
+module _ (f before : List ℕ) where
+  pub file-fails : (r : Refusal) → outcome (fileChecks 0 f) ≡ refused r → Folds f before (Refused r) before
+  file-fails r e =
+      meets-refused foldedSays (outcome (foldChecks f (length before))) (foldValues f) (foldedFile f) before (Refused r) r refl
+      (then-refused (fileChecks 0 f) (roomCheck f (length before)) r e)
+
+  module _ (e : outcome (fileChecks 0 f) ≡ passed) where
+    pub room-fails : length before < length (foldedFile f) → (r : Refusal) → r ≡ refusal ROOM → Folds f before (Refused r) before
+    room-fails h r p =
+        meets-refused foldedSays (outcome (foldChecks f (length before))) (foldValues f) (foldedFile f) before (Refused r) r refl
+        (then-passed (fileChecks 0 f) (roomCheck f (length before)) e ∙ reaches (roomCheck f (length before)) (refused r) (inl (h, ap refused p)))
+
+    pub answered : length (foldedFile f) ≤ length before → (r : Folded) (l b a : ℕ) → r ≡ File l b a → l ≡ length (foldedFile f) → b ≡ score (gatesOf f) → a ≡ score (folded (wiresOf f) (gatesOf f))
+        → (after : List ℕ) → after ≡ foldedFile f ++ drop (length (foldedFile f)) before → Folds f before r after
+    answered h r l b a d p q s after t =
+        meets-passed foldedSays (outcome (foldChecks f (length before))) (foldValues f) (foldedFile f) before r after
+        (ap foldedSays d ∙ (λ i. values (p i ∷ q i ∷ s i ∷ [])))
+        (then-passed (fileChecks 0 f) (roomCheck f (length before)) e ∙ reaches (roomCheck f (length before)) passed (inr (h, refl))) t
+
+-- what is known once the totals that are not 0 are counted: how long the folded file will be
+pub record Room (f : List ℕ) (mixing scored : ℕ) : Type 0 where
+  pub after : scored ≡ score (folded (wiresOf f) (gatesOf f))
+  pub kept : mixing + scored ≡ length (folded (wiresOf f) (gatesOf f))
+  pub few : mixing + scored ≤ 2048
+  pub whole : 8 + 4 * (mixing + scored) ≡ length (foldedFile f)
+
+pub room : (f : List ℕ) → Bytes f → outcome (fileChecks 0 f) ≡ passed → (ts : List ℕ) (mixing scored : ℕ) → Totals f ts → mixing ≡ cnots (gatesOf f) → scored ≡ nonzeros ts → Room f mixing scored
+room f bytes e ts mixing scored t p q =
+    let w = wiresOf f in
+    let gs = gatesOf f in
+    let long : length ts ≡ 2 ^ 10 = t .long in
+    let s : scored ≡ score (folded w gs) =
+    q ∙ sumOf-ext 0 _+_ (length ts) (λ m. nonzero (getD ts m 0)) (λ m. nonzero (groupTotal w gs m)) (λ m l. ap nonzero (t .each m))
+    ∙ ap (λ (n : ℕ). sum n (λ m. nonzero (groupTotal w gs m))) long ∙ sym (score-of-totals w gs 10 (good-file 0 f e .few)) in
+    let k = length-folded w gs in
+    let l = length-folded-file f in
+    record { after = s; kept = omega arith; few = omega (arith, few-gates 0 f bytes e); whole = omega arith }
+
+-- the header, then the gates behind it, are the folded file
+module _ (f before : List ℕ) (fits : length (foldedFile f) ≤ length before) where
+  pub room-behind : 8 + length (bytesOf (folded (wiresOf f) (gatesOf f))) ≤ length before
+  unfolding fileOf
+  room-behind = omega arith
+
+  pub file-written : (kept : ℕ) (half after : List ℕ) → kept ≡ length (folded (wiresOf f) (gatesOf f)) → half ≡ putAt (headerBytes (wiresOf f) kept) 0 before
+      → after ≡ putAt (bytesOf (folded (wiresOf f) (gatesOf f))) 8 half → after ≡ foldedFile f ++ drop (length (foldedFile f)) before
+  unfolding fileOf
+  file-written kept half after e p q =
+      let gs = folded (wiresOf f) (gatesOf f) in
+      q ∙ ap (putAt (bytesOf gs) 8) (p ∙ ap (λ (n : ℕ). putAt (headerBytes (wiresOf f) n) 0 before) e)
+      ∙ put-put (headerBytes (wiresOf f) (length gs)) (bytesOf gs) 0 before (rw (zero-add (length (foldedFile f))) fits)
+      ∙ put-fits (foldedFile f) 0 before (rw (zero-add (length (foldedFile f))) fits) ∙ ap (λ (n : ℕ). foldedFile f ++ drop n before) (zero-add (length (foldedFile f)))
+
+pub folded-distinct : Distinct foldedSays
+folded-distinct (File l b a) (File m c d) e = cc
+folded-distinct (File l b a) (Refused r) e = cc
+folded-distinct (Refused r) (File m c d) e = cc
+folded-distinct (Refused r) (Refused s) e = ap Refused (same-refusal r s e)
+
+-- no second answer meets the contract, and no second slice
+pub one-fold : (f before : List ℕ) (a b : Folded) (x y : List ℕ) → Folds f before a x → Folds f before b y → (a ≡ b) × (x ≡ y)
+one-fold f before = one-answer foldedSays (outcome (foldChecks f (length before))) (foldValues f) (foldedFile f) before folded-distinct

@@ -1,0 +1,55 @@
+-- The folded file: well-formed, on the same wires, with the folded gates; the same runs; and folded again it is itself.
+use Prim.Native.Nat.{ℕ, _+_, _*_, _≤_}
+use native.Mathlib.Omega.{arith}
+use mathlib.Core.Path.{_≡_, ap, ap₂, _∙_}
+use mathlib.Core.List.{List}
+use lib.ListN.{length}
+use Rattle.refusal.specs.Checks.{passed, outcome}
+use Rattle.circuit.specs.declared.Gate.{Gate}
+use Rattle.circuit.specs.Gates.{AllSound}
+use Rattle.circuit.specs.File.{wiresOf, gatesOf, fileChecks, fileOf}
+use Rattle.circuit.specs.Run.{endFrom, phaseFrom, cnots, score}
+use Rattle.circuit.proofs.Decoding.{Bytes}
+use Rattle.circuit.proofs.Files.{good-file, file-sound, length-gates, wires-written, length-file, list-written, written-passes}
+use Rattle.fold.specs.Fold.{folded, foldedFile, cnotsOf}
+use Rattle.fold.proofs.Folding.{folded-sound, folded-shorter, folded-twice, same-cnots, same-end, same-phase}
+use Rattle.fold.proofs.Scores.{length-folded}
+
+pub length-folded-file : (f : List ℕ) → length (foldedFile f) ≡ 8 + 4 * (cnots (gatesOf f) + score (folded (wiresOf f) (gatesOf f)))
+length-folded-file f = length-file (wiresOf f) (folded (wiresOf f) (gatesOf f)) ∙ ap (λ (n : ℕ). 8 + 4 * n) (length-folded (wiresOf f) (gatesOf f))
+
+pub same-wires : (f : List ℕ) → wiresOf (foldedFile f) ≡ wiresOf f
+same-wires f = wires-written (wiresOf f) (folded (wiresOf f) (gatesOf f))
+
+module _ (s : ℕ) (f : List ℕ) (bytes : Bytes f) (h : outcome (fileChecks s f) ≡ passed) where
+  sound : AllSound (wiresOf f) (gatesOf f)
+  sound = file-sound f bytes (good-file s f h)
+
+  -- at most 2,048 gates, as before
+  pub few-gates : length (folded (wiresOf f) (gatesOf f)) ≤ 2048
+  few-gates = omega (arith, folded-shorter (wiresOf f) (gatesOf f), length-gates f bytes (good-file s f h), good-file s f h .count)
+
+  -- the folded file passes every check
+  pub folded-passes : (t : ℕ) → outcome (fileChecks t (foldedFile f)) ≡ passed
+  folded-passes t =
+      let g = good-file s f h in
+      written-passes (wiresOf f) (folded (wiresOf f) (gatesOf f)) t (g .some) (g .few) (folded-sound (wiresOf f) (gatesOf f) sound) few-gates
+
+  pub gates-of-folded : gatesOf (foldedFile f) ≡ folded (wiresOf f) (gatesOf f)
+  gates-of-folded = list-written (wiresOf f) (folded (wiresOf f) (gatesOf f)) (folded-sound (wiresOf f) (gatesOf f) sound)
+
+  pub file-cnots : cnotsOf (gatesOf (foldedFile f)) ≡ cnotsOf (gatesOf f)
+  file-cnots = ap cnotsOf gates-of-folded ∙ same-cnots (wiresOf f) (gatesOf f)
+
+  -- every start ends in the same state with the same phase
+  pub file-end : (x : ℕ) → endFrom (gatesOf (foldedFile f)) x ≡ endFrom (gatesOf f) x
+  file-end x = ap (λ (gs : List Gate). endFrom gs x) gates-of-folded ∙ same-end (wiresOf f) (gatesOf f) x
+
+  pub file-phase : (x : ℕ) → phaseFrom (gatesOf (foldedFile f)) x ≡ phaseFrom (gatesOf f) x
+  file-phase x = ap (λ (gs : List Gate). phaseFrom gs x) gates-of-folded ∙ same-phase (wiresOf f) (gatesOf f) sound x
+
+  -- "folding the folded file changes nothing"
+  pub file-twice : foldedFile (foldedFile f) ≡ foldedFile f
+  file-twice =
+      ap₂ (λ (w : ℕ) (gs : List Gate). fileOf w (folded w gs)) (same-wires f) gates-of-folded
+      ∙ ap (fileOf (wiresOf f)) (folded-twice (wiresOf f) (gatesOf f))

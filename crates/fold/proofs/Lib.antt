@@ -1,0 +1,10 @@
+pub mod Passing
+pub mod Positions
+pub mod Folding
+pub mod Scores
+pub mod Files
+pub mod Answers
+pub mod Cases
+mod Stepping
+mod Adding
+mod Writing

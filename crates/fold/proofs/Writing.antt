@@ -1,0 +1,134 @@
+-- The loop that writes: what the pass still leaves of the rest, put behind what is written, is the whole.
+use Prim.Native.Nat.{ℕ, suc, _+_, _^_, _<_, _≤_}
+use native.Mathlib.Nat.{add-zero}
+use native.Mathlib.Numerals.{add-one}
+use native.Mathlib.Decide.{ℕ-discrete, decLt}
+use native.Mathlib.Omega.{arith}
+use mathlib.Core.Path.{_≡_, refl, sym, ap, ap₂, _∙_}
+use mathlib.Core.List.{List, [], _∷_, _++_, append-nil}
+use lib.ListN.{length, getD, set, take, drop, length-append, take-append-drop, List·getD-eq-default}
+use lib.Seq.{getD-set-same, getD-set-other, set-out}
+use Rattle.refusal.specs.Checks.{passed as allPassed, outcome}
+use Rattle.circuit.specs.declared.Gate.{Gate}
+use Rattle.circuit.specs.declared.Gate.the-variants.{Cnot, Phase}
+use Rattle.circuit.specs.declared.Met.{Met}
+use Rattle.circuit.specs.declared.Met.the-variants.{Mixed, Mask}
+use Rattle.circuit.specs.Gates.{gateBytes, bytesOf, putAt}
+use Rattle.circuit.specs.File.{wiresOf, countOf, gatesOf, fileChecks}
+use Rattle.circuit.specs.Masks.{ownMasks, powers, masksAfter, met}
+use Rattle.circuit.proofs.Decoding.{Bytes, bytes-append}
+use Rattle.circuit.proofs.Files.{good-file, file-sound, gates-end}
+use Rattle.circuit.proofs.Masks.{powers-own, own-alike, length-after}
+use Rattle.circuit.proofs.Writing.{put-fits, put-put, length-put}
+use Rattle.numbers.proofs.Lists.{length-list}
+use Rattle.fold.specs.Fold.{groupTotal, folded}
+use Rattle.fold.specs.Totals.{Totals, takenFrom, found, left, leaves}
+use Rattle.fold.specs.declared.writer.Left.{Left}
+use Rattle.fold.specs.declared.writer.Left.the-variants.{Stays, Goes}
+use Rattle.fold.proofs.Passing.{cleared, takes, after, passed, passed-none, passed-cons, passed-alike, same-function, cleared-own, cleared-other}
+use Rattle.fold.proofs.Positions.{folded-passed}
+
+abbrev entry : List ℕ → ℕ → ℕ
+entry totals m = getD totals m 0
+
+-- what is still to be written at position i
+abbrev rest : List ℕ → List ℕ → List ℕ → ℕ → List Gate
+rest f masks totals i = passed (entry totals) (drop i (gatesOf f)) masks
+
+pub record Writing (f goal masks totals out : List ℕ) (at i : ℕ) : Type 0 where
+  pub wide : length masks ≡ 10
+  pub fits : at + length (bytesOf (rest f masks totals i)) ≤ length out
+  pub writes : putAt (bytesOf (rest f masks totals i)) at out ≡ goal
+
+-- a total that is taken from the row
+taken-entry : (totals : List ℕ) (x : Met) → entry (takenFrom x totals) ≡ after (entry totals) x
+taken-entry totals Mixed = refl
+taken-entry totals (Mask k a) = same-function (entry (set totals k 0)) (cleared (entry totals) k) (λ m. by m (ℕ-discrete m k) (decLt k (length totals)))
+  where
+    by : (m : ℕ) → Dec (m ≡ k) → Dec (k < length totals) → entry (set totals k 0) m ≡ cleared (entry totals) k m
+    by m (no e) d = getD-set-other totals k m 0 0 e ∙ sym (cleared-other (entry totals) k m e)
+    by m (yes e) (yes l) = ap (entry (set totals k 0)) e ∙ getD-set-same totals k 0 0 l ∙ sym (cleared-own (entry totals) k m e)
+    by m (yes e) (no l) =
+        ap (λ (t : List ℕ). entry t m) (set-out totals k 0 (omega arith)) ∙ List·getD-eq-default totals 0 {n = m} (omega arith) ∙ sym (cleared-own (entry totals) k m e)
+
+found-entry : (totals : List ℕ) (x : Met) → found x totals ≡ takes (entry totals) x
+found-entry totals Mixed = refl
+found-entry totals (Mask k a) = refl
+
+-- writing nothing changes nothing
+put-none : (at : ℕ) (out : List ℕ) → at ≤ length out → putAt [] at out ≡ out
+put-none at out h = put-fits [] at out (omega arith) ∙ ap₂ (λ (l : List ℕ) (n : ℕ). l ++ drop n out) (append-nil (take at out)) (add-zero at) ∙ take-append-drop at out
+
+-- what is left of one gate: its bytes, or none
+module _ (l : Left) (at : ℕ) (out : List ℕ) where
+  pub goes : l ≡ Goes → at ≤ length out → (at ≡ at + length (bytesOf (leaves l))) × (out ≡ putAt (bytesOf (leaves l)) at out)
+  unfolding bytesOf
+  goes e h = rw e (sym (add-zero at), sym (put-none at out h))
+
+  pub stays : (g : Gate) (out′ : List ℕ) → l ≡ Stays g → out′ ≡ putAt (gateBytes g) at out → (at + 4 ≡ at + length (bytesOf (leaves l))) × (out′ ≡ putAt (bytesOf (leaves l)) at out)
+  unfolding bytesOf
+  stays g out′ e p = let d = one g in rw e (four g ∙ ap (λ (bs : List ℕ). at + length bs) d, p ∙ ap (λ (bs : List ℕ). putAt bs at out) d)
+    where
+      one : (g : Gate) → gateBytes g ≡ bytesOf (g ∷ [])
+      one (Cnot c t) = refl
+      one (Phase i a) = refl
+
+      four : (g : Gate) → at + 4 ≡ at + length (gateBytes g)
+      four (Cnot c t) = refl
+      four (Phase i a) = refl
+
+module _ (f : List ℕ) (bytes : Bytes f) (passes : outcome (fileChecks 0 f) ≡ allPassed) where
+  pub writing-starts : (masks totals out : List ℕ) → masks ≡ powers 10 → Totals f totals → 8 + length (bytesOf (folded (wiresOf f) (gatesOf f))) ≤ length out
+      → Writing f (putAt (bytesOf (folded (wiresOf f) (gatesOf f))) 8 out) masks totals out 8 0
+  writing-starts masks totals out p t h =
+      let g = good-file 0 f passes in
+      let w = wiresOf f in
+      let gs = gatesOf f in
+      let own : masks ≡ ownMasks 10 = p ∙ powers-own 10 (omega arith) in
+      let e : passed (entry totals) gs masks ≡ folded w gs =
+      ap₂ (λ (T : ℕ → ℕ) (ms : List ℕ). passed T gs ms) (same-function (entry totals) (groupTotal w gs) (t .each)) own
+      ∙ passed-alike (groupTotal w gs) w gs (ownMasks 10) (ownMasks w) (file-sound f bytes g) (own-alike w 10 (g .few)) ∙ sym (folded-passed w gs) in
+      record {
+        wide = ap length own ∙ length-list 10 (λ i. 2 ^ i);
+        fits = rw e h;
+        writes = ap (λ (l : List Gate). putAt (bytesOf l) 8 out) e;
+      }
+
+  pub writing-ends : (goal masks totals out : List ℕ) (at i : ℕ) → countOf f ≤ i → Writing f goal masks totals out at i → out ≡ goal
+  unfolding bytesOf
+  writing-ends goal masks totals out at i h r =
+      let e : rest f masks totals i ≡ [] = ap (λ (gs : List Gate). passed (entry totals) gs masks) (gates-end f bytes (good-file 0 f passes) i h) ∙ passed-none (entry totals) masks in
+      let l : at ≤ length out = omega (arith, r .fits) in
+      sym (put-none at out l) ∙ ap (λ (gs : List Gate). putAt (bytesOf gs) at out) (sym e) ∙ r .writes
+
+module _ (f goal : List ℕ) (i : ℕ) (masks totals out : List ℕ) (at : ℕ) (r : Writing f goal masks totals out at i) where
+  pub room-left : at ≤ length out
+  room-left = omega (arith, r .fits)
+
+  module _ (g : Gate) (l : List Gate) (masks′ totals′ : List ℕ)
+      (d : drop i (gatesOf f) ≡ g ∷ drop (suc i) (gatesOf f)) (p : masks′ ≡ masksAfter g masks) (q : totals′ ≡ takenFrom (met g masks) totals)
+      (e : l ≡ left (found (met g masks) totals) g) where
+    split : rest f masks totals i ≡ l ++ rest f masks′ totals′ (suc i)
+    split =
+        ap (λ (gs : List Gate). passed (entry totals) gs masks) d ∙ passed-cons (entry totals) g (drop (suc i) (gatesOf f)) masks
+        ∙ ap₂ _++_ (ap (λ (t : ℕ). left t g) (sym (found-entry totals (met g masks))) ∙ sym e)
+        (ap₂ (λ (T : ℕ → ℕ) (ms : List ℕ). passed T (drop (suc i) (gatesOf f)) ms) (sym (taken-entry totals (met g masks)) ∙ ap entry (sym q)) (sym p))
+
+    parts : bytesOf (rest f masks totals i) ≡ bytesOf l ++ bytesOf (rest f masks′ totals′ (suc i))
+    parts = ap bytesOf split ∙ bytes-append l (rest f masks′ totals′ (suc i))
+
+    long : length (bytesOf (rest f masks totals i)) ≡ length (bytesOf l) + length (bytesOf (rest f masks′ totals′ (suc i)))
+    long = ap length parts ∙ length-append (bytesOf l) (bytesOf (rest f masks′ totals′ (suc i)))
+
+    pub writing-goes-on : (out′ : List ℕ) (at′ : ℕ) → out′ ≡ putAt (bytesOf l) at out → at′ ≡ at + length (bytesOf l) → Writing f goal masks′ totals′ out′ at′ (i + 1)
+    writing-goes-on out′ at′ s t =
+        let w : at + length (bytesOf l) ≤ length out = omega (arith, r .fits, long) in
+        let k : length out′ ≡ length out = ap length s ∙ length-put (bytesOf l) at out w in
+        rw (add-one i)
+        (record {
+          wide = ap length p ∙ length-after g masks ∙ r .wide;
+          fits = omega (arith, r .fits, long);
+          writes = ap₂ (λ (a : ℕ) (o : List ℕ). putAt (bytesOf (rest f masks′ totals′ (suc i))) a o) t s
+              ∙ put-put (bytesOf l) (bytesOf (rest f masks′ totals′ (suc i))) at out (rw (length-append (bytesOf l) (bytesOf (rest f masks′ totals′ (suc i)))) (omega (arith, r .fits, long)))
+              ∙ ap (λ (bs : List ℕ). putAt bs at out) (sym parts) ∙ r .writes;
+        })

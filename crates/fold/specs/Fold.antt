@@ -1,0 +1,67 @@
+-- 01, "Running, counting, folding": the folded gate list, gate by gate and by position, and what the operation answers.
+use Prim.Native.Nat.{ℕ, zero, suc, _*_, _%_}
+use mathlib.Core.List.{List, [], _∷_, _++_}
+use lib.ListN.{length, getD, take}
+use Rattle.numbers.specs.Bits.{equal}
+use Rattle.refusal.specs.Checks.{Check, roomCheck}
+use Rattle.refusal.specs.Contract.{Said, values, saidOf}
+use Rattle.circuit.specs.declared.Gate.{Gate}
+use Rattle.circuit.specs.declared.Gate.the-variants.{Cnot, Phase}
+use Rattle.circuit.specs.File.{wiresOf, gatesOf, fileChecks, fileOf}
+use Rattle.circuit.specs.Masks.{ownMasks, masksFrom, sumMet}
+use Rattle.fold.specs.declared.Folded.{Folded}
+use Rattle.fold.specs.declared.Folded.the-variants.{File, Refused}
+
+-- "phase gates met at the same mask are one group": "the wrapped sum of the group" of mask m
+abbrev pub groupTotal : ℕ → List Gate → ℕ → ℕ
+groupTotal w gs m = sumMet (λ k a. a * equal k m) gs (ownMasks w) % 65536
+
+-- "Each wire holds a parity of the starting bits: a mask": that of wire i before the gate at position p
+abbrev pub maskAt : ℕ → List Gate → ℕ → ℕ → ℕ
+maskAt w gs p i = getD (masksFrom (take p gs) (ownMasks w)) i 0
+
+-- how many phase gates of mask m's group stand before position p
+abbrev pub earlier : ℕ → List Gate → ℕ → ℕ → ℕ
+earlier w gs p m = sumMet (λ k a. equal k m) (take p gs) (ownMasks w)
+
+-- "if the sum is 0 the first goes too"
+abbrev pub kept : ℕ → ℕ → List Gate
+kept i zero = []
+kept i (suc a) = Phase i (suc a) ∷ []
+
+-- "The group's first gate stays ..; the others go"
+abbrev pub firstOnly : ℕ → List Gate → List Gate
+firstOnly zero gs = gs
+firstOnly (suc n) gs = []
+
+-- "The group's first gate stays in its place with the wrapped sum of the group"; "CNOTs stay"
+abbrev pub becomes : ℕ → List Gate → ℕ → Gate → List Gate
+becomes w gs p (Cnot c t) = Cnot c t ∷ []
+becomes w gs p (Phase i a) = firstOnly (earlier w gs p (maskAt w gs p i)) (kept i (groupTotal w gs (maskAt w gs p i)))
+
+-- "in order": what becomes of the gates from position p on
+unfoldable pub foldedFrom : ℕ → List Gate → ℕ → List Gate → List Gate
+foldedFrom w gs p [] = []
+foldedFrom w gs p (g ∷ rest) = becomes w gs p g ++ foldedFrom w gs (suc p) rest
+
+abbrev pub folded : ℕ → List Gate → List Gate
+folded w gs = foldedFrom w gs 0 gs
+
+-- "the new file", on the same wires
+abbrev pub foldedFile : List ℕ → List ℕ
+foldedFile f = fileOf (wiresOf f) (folded (wiresOf f) (gatesOf f))
+
+-- "CNOTs stay in order": the CNOTs of a list
+unfoldable pub cnotsOf : List Gate → List Gate
+cnotsOf [] = []
+cnotsOf (Cnot c t ∷ gs) = Cnot c t ∷ cnotsOf gs
+cnotsOf (Phase i a ∷ gs) = cnotsOf gs
+
+-- rows 4 to 10, then 13 "output slice shorter than this call's result"
+abbrev pub foldChecks : List ℕ → ℕ → List Check
+foldChecks f room = fileChecks 0 f ++ roomCheck room (length (foldedFile f))
+
+-- "It answers the new file's length with the scores before and after."
+abbrev pub foldedSays : Folded → Said
+foldedSays (File l before after) = values (l ∷ before ∷ after ∷ [])
+foldedSays (Refused r) = saidOf r

@@ -1,0 +1,101 @@
+// The folded gates, written.
+use circuit::Decoded;
+use circuit::Gate;
+use circuit::Met;
+ghost use mathlib.Core.Path.{_≡_};
+ghost use Prim.Native.Nat.{_+_, _≤_};
+ghost use lib.ListN.{length, getD, set};
+ghost use Rattle.refusal.specs.Checks.{outcome, passed};
+ghost use Rattle.circuit.specs.Gates.{bytesOf, putAt};
+ghost use Rattle.circuit.specs.File.{wiresOf, countOf, gatesOf, fileChecks};
+ghost use Rattle.circuit.specs.Masks.{met, masksAfter};
+ghost use Rattle.fold.specs.Fold.{folded, kept};
+ghost use Rattle.fold.specs.Totals.{takenFrom, found, left, leaves, Totals};
+
+// What becomes of a gate.
+enum Left {
+    Stays(Gate),
+    Goes,
+}
+
+// Takes a mask's total: the entry becomes 0, so that later gates of the group find 0.
+fn take(totals: &mut [u16], mask: usize) -> u16
+    ensures { λ r. ⌜ r ≡ getD (now (totals .entry)) mask 0 ⌝ }
+    ensures { λ r. ⌜ now (totals .exit) ≡ set (now (totals .entry)) mask 0 ⌝ }
+{
+    if mask < totals.len() {
+        let total = totals[mask];
+        totals[mask] = 0;
+        total
+    } else {
+        0
+    }
+}
+
+// A phase gate with its group's total.
+fn phase(wire: u8, total: u16) -> Left
+    ensures { λ r. ⌜ leaves r ≡ kept wire total ⌝ }
+{
+    if total == 0 {
+        return Left::Goes;
+    }
+    Left::Stays(Gate::Phase { wire, angle: total })
+}
+
+// What becomes of a gate whose group's total is taken from the row.
+fn fold_gate(gate: Gate, masks: &mut [u16], totals: &mut [u16]) -> Left
+    ensures { λ _. ⌜ now (masks .exit) ≡ masksAfter gate (now (masks .entry)) ⌝ }
+    ensures { λ _. ⌜ now (totals .exit) ≡ takenFrom (met gate (now (masks .entry))) (now (totals .entry)) ⌝ }
+    ensures { λ r. ⌜ leaves r ≡ left (found (met gate (now (masks .entry))) (now (totals .entry))) gate ⌝ }
+{
+    let met = circuit::walk(masks, gate);
+    match gate {
+        Gate::Cnot {
+            control: _,
+            target: _,
+        } => Left::Stays(gate),
+        Gate::Phase { wire, angle: _ } => {
+            let Met::Mask { mask, angle: _ } = met else {
+                return Left::Goes;
+            };
+            phase(wire, take(totals, mask as usize))
+        }
+    }
+}
+
+// Writes what is left of a gate at `at`, and answers the place behind it.
+fn put_left(left: Left, out: &mut [u8], at: usize) -> usize
+    requires { ⌜ at ≤ length (now out) ⌝ }
+    ensures { λ r. ⌜ r ≡ at + length (bytesOf (leaves left)) ⌝ }
+    ensures { λ r. ⌜ now (out .exit) ≡ putAt (bytesOf (leaves left)) at (now (out .entry)) ⌝ }
+{
+    match left {
+        Left::Goes => at,
+        Left::Stays(gate) => {
+            circuit::put_gate(gate, out, at);
+            at + 4
+        }
+    }
+}
+
+// Writes the folded gates behind the header.
+pub fn write_gates(file: &[u8], gates: usize, totals: &mut [u16], out: &mut [u8])
+    requires { ⌜ (outcome (fileChecks 0 (now file)) ≡ passed) × (gates ≡ countOf (now file)) ⌝ }
+    requires { ⌜ Totals (now file) (now totals) ⌝ }
+    requires { ⌜ 8 + length (bytesOf (folded (wiresOf (now file)) (gatesOf (now file)))) ≤ length (now out) ⌝ }
+    ensures { λ _. ⌜ now (out .exit) ≡ putAt (bytesOf (folded (wiresOf (now (file .entry))) (gatesOf (now (file .entry))))) 8 (now (out .entry)) ⌝ }
+{
+    let mut masks = [0u16; 10];
+    circuit::own_masks(&mut masks);
+    let mut at: usize = 8;
+    let mut i: usize = 0;
+    while i < gates {
+        let Decoded::Good(placed) = circuit::gate_at(file, i) else {
+            return;
+        };
+        let gate = placed.gate;
+        let left = fold_gate(gate, &mut masks, totals);
+        at = put_left(left, out, at);
+        i += 1;
+    }
+}
