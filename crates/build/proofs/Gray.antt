@@ -4,6 +4,7 @@ use native.Mathlib.Nat.{mod-add-mod, add-mod-right, add-mul-mod-self-right, pow-
 use native.Mathlib.Decide.{ℕ-discrete}
 use native.Mathlib.Omega.{arith}
 use mathlib.Core.Path.{_≡_, refl, sym, ap, ap₂, _∙_}
+use mathlib.Core.Bool.{cond}
 use borrow.Author.Tests.{eq-eqb, ne-eqb}
 use lib.Bits.{bitXor, xor-lt, xor-zero-r, xor-self}
 use lib.Count.{trailingZeros, under}
@@ -11,7 +12,7 @@ use lib.Pow.{pow-pos}
 use Rattle.numbers.specs.Sums.{sumOf}
 use Rattle.numbers.proofs.Sums.{Adds, sumOf-ext, sumOf-pairs}
 use Rattle.numbers.proofs.Wires.{xor-low, xor-half}
-use Rattle.build.specs.Gray.{unless, turned, word}
+use Rattle.build.specs.Gray.{turned, word}
 
 abbrev pub gray : ℕ → ℕ
 gray k = bitXor k (k / 2)
@@ -67,7 +68,7 @@ pub word-gray : (i k : ℕ) → k < 2 ^ i → word i k ≡ gray k
 unfolding word turned
 word-gray i zero h = refl
 word-gray i (suc k) h =
-    let t : turned i k ≡ trailingZeros i (suc k) = ap (λ b. unless b (i - 1) (trailingZeros i (suc k))) (ne-eqb (suc k) (2 ^ i) (omega arith)) in
+    let t : turned i k ≡ trailingZeros i (suc k) = ap (λ b. cond b (i - 1) (trailingZeros i (suc k))) (ne-eqb (suc k) (2 ^ i) (omega arith)) in
     ap₂ (λ (v d : ℕ). bitXor v (2 ^ d)) (word-gray i k (omega arith)) t ∙ gray-next i k h
 
 -- the last word has the highest bit alone
@@ -91,7 +92,7 @@ word-closes j =
     let e : suc k ≡ 2 ^ suc j = omega arith in
     ap (word (suc j)) (sym e)
     ∙ ap₂ (λ (v d : ℕ). bitXor v (2 ^ d)) (word-gray (suc j) k (omega arith) ∙ gray-last j)
-    (ap (λ b. unless b (suc j - 1) (trailingZeros (suc j) (suc k))) (eq-eqb (suc k) (2 ^ suc j) e) ∙ (let q : suc j - 1 ≡ j = omega arith in q))
+    (ap (λ b. cond b (suc j - 1) (trailingZeros (suc j) (suc k))) (eq-eqb (suc k) (2 ^ suc j) e) ∙ (let q : suc j - 1 ≡ j = omega arith in q))
     ∙ xor-self (2 ^ j)
 
 pub word-below : (i k : ℕ) → k < 2 ^ i → word i k < 2 ^ i

@@ -1,5 +1,6 @@
 -- 01, "Circuit file": the header, the gate list, the checks of the table's rows 4 to 10, and the reader's answer.
 use Prim.Native.Nat.{ℕ, _+_, _*_, _/_, _%_}
+use mathlib.Core.Bool.{cond}
 use mathlib.Core.List.{List, [], _∷_, _++_}
 use lib.Dec.{leb}
 use lib.ListN.{length, getD, drop}
@@ -11,7 +12,7 @@ use Rattle.circuit.specs.declared.Decoded.{Decoded}
 use Rattle.circuit.specs.declared.Decoded.the-variants.{Bad}
 use Rattle.circuit.specs.declared.Reading.{Reading}
 use Rattle.circuit.specs.declared.Reading.the-variants.{Circuit, Refused}
-use Rattle.circuit.specs.Gates.{choose, decodedAt, firstBad, gatesFrom, bytesOf}
+use Rattle.circuit.specs.Gates.{decodedAt, firstBad, gatesFrom, bytesOf}
 
 -- "Bytes 50 48 47 ("PHG"), version 1 (16 bits), wires (1 byte), gate count (16 bits), then 4 bytes a gate; high byte first"
 abbrev pub markOf : List ℕ → ℕ
@@ -36,7 +37,7 @@ badOf f = firstBad (wiresOf f) (countOf f) 0 (drop 8 f)
 
 -- the i-th four bytes after the header, as the gate at position i; bad where they do not all lie in the file
 abbrev pub gateAt : List ℕ → ℕ → Decoded
-gateAt f i = choose (leb (12 + 4 * i) (length f)) (decodedAt (wiresOf f) i (drop (8 + 4 * i) f)) Bad
+gateAt f i = cond (leb (12 + 4 * i) (length f)) (decodedAt (wiresOf f) i (drop (8 + 4 * i) f)) Bad
 
 -- rows 4 to 10 of the table, for the file that is given as side s
 abbrev pub fileChecks : ℕ → List ℕ → List Check

@@ -1,7 +1,7 @@
 -- 01, "Circuit file": a gate's four bytes, which of them are bad, and the gates of a row of bytes.
 use Prim.Native.Nat.{ℕ, zero, suc, _+_, _*_, _/_, _%_, _<_}
 use mathlib.Core.Path.{_≡_}
-use mathlib.Core.Bool.{Bool, true, false, cond}
+use mathlib.Core.Bool.{cond}
 use mathlib.Core.List.{List, [], _∷_, _++_}
 use lib.Dec.{ltb, leb, eqb}
 use lib.ListN.{length, getD, take, drop}
@@ -10,25 +10,21 @@ use Rattle.circuit.specs.declared.Gate.the-variants.{Cnot, Phase}
 use Rattle.circuit.specs.declared.Decoded.{Decoded}
 use Rattle.circuit.specs.declared.Decoded.the-variants.{Good, Bad}
 
-abbrev pub choose : Bool → Decoded → Decoded → Decoded
-choose true a b = a
-choose false a b = b
-
 abbrev pub good : ℕ → Gate → Decoded
 good p g = Good (record { position = p; gate = g })
 
 -- "CNOT: 01, control, target, 00": "bad if .. a wire isn't below w, control equals target, or a CNOT's last byte isn't 0"
 abbrev pub cnotOf : ℕ → ℕ → ℕ → ℕ → ℕ → Decoded
 cnotOf w p c t spare =
-    choose (ltb c w) (choose (ltb t w) (choose (eqb c t) Bad (choose (eqb spare 0) (good p (Cnot c t)) Bad)) Bad) Bad
+    cond (ltb c w) (cond (ltb t w) (cond (eqb c t) Bad (cond (eqb spare 0) (good p (Cnot c t)) Bad)) Bad) Bad
 
 -- "Phase: 02, wire, angle in 16 bits", "high byte first"; "The zero angle is good"
 abbrev pub phaseOf : ℕ → ℕ → ℕ → ℕ → ℕ → Decoded
-phaseOf w p i high low = choose (ltb i w) (good p (Phase i (high * 256 + low))) Bad
+phaseOf w p i high low = cond (ltb i w) (good p (Phase i (high * 256 + low))) Bad
 
 -- "A gate is bad if its kind is neither 1 nor 2", or as above; a good one is "held with its position"
 unfoldable pub decoded : ℕ → ℕ → ℕ → ℕ → ℕ → ℕ → Decoded
-decoded w p kind a b c = choose (eqb kind 1) (cnotOf w p a b c) (choose (eqb kind 2) (phaseOf w p a b c) Bad)
+decoded w p kind a b c = cond (eqb kind 1) (cnotOf w p a b c) (cond (eqb kind 2) (phaseOf w p a b c) Bad)
 
 -- the next four bytes as the gate at position p
 abbrev pub decodedAt : ℕ → ℕ → List ℕ → Decoded

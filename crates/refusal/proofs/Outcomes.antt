@@ -2,11 +2,11 @@
 use Prim.Native.Nat.{_≤_, _<_}
 use mathlib.Core.Path.{_≡_, refl, ap, _∙_}
 use mathlib.Core.Logic.{_⊎_, inl, inr}
-use mathlib.Core.Bool.{Bool, true, false, not}
+use mathlib.Core.Bool.{Bool, true, false, not, cond}
 use mathlib.Core.List.{List, [], _∷_, _++_}
 use borrow.Author.Tests.{lt-ltb, le-ltb, le-leb, lt-leb, eq-eqb, ne-eqb}
 use Rattle.refusal.specs.declared.Refusal.{Refusal}
-use Rattle.refusal.specs.Checks.{Test, less, atLeast, same, other, holds, Check, Outcome, passed, refused, ifHolds, outcome, settle}
+use Rattle.refusal.specs.Checks.{Test, less, atLeast, same, other, holds, Check, Outcome, passed, refused, outcome, settle}
 
 abbrev pub Holds : Test → Type 0
 Holds (less a b) = a < b
@@ -49,7 +49,7 @@ unfolding outcome
 outcome-append [] ys = refl
 outcome-append (c ∷ cs) ys = first (holds (c .when)) (outcome-append cs ys)
   where
-    first : (b : Bool) → outcome (cs ++ ys) ≡ settle (outcome cs) refused (outcome ys) → ifHolds b (refused (c .gives)) (outcome (cs ++ ys)) ≡ settle (ifHolds b (refused (c .gives)) (outcome cs)) refused (outcome ys)
+    first : (b : Bool) → outcome (cs ++ ys) ≡ settle (outcome cs) refused (outcome ys) → cond b (refused (c .gives)) (outcome (cs ++ ys)) ≡ settle (cond b (refused (c .gives)) (outcome cs)) refused (outcome ys)
     first true e = refl
     first false e = e
 

@@ -2,11 +2,11 @@
 use mathlib.Core.Path.{_≡_, refl}
 use native.Mathlib.Omega.{arith}
 use Prim.Native.Nat.{ℕ}
-use mathlib.Core.Bool.{Bool, true, false}
+use mathlib.Core.Bool.{Bool, true, false, cond}
 use mathlib.Core.List.{List, [], _∷_}
 use borrow.Author.Tests.{ltb-false, leb-false, eqb-false, eqb-true, not-false}
 use lib.Dec.{eqb}
-use Rattle.refusal.specs.Checks.{Test, less, atLeast, same, other, holds, Check, passed, refused, ifHolds, outcome}
+use Rattle.refusal.specs.Checks.{Test, less, atLeast, same, other, holds, Check, passed, refused, outcome}
 use Rattle.refusal.proofs.Outcomes.{Fails, holds-false}
 
 abbrev pub AllFail : List Check → Type 0
@@ -25,7 +25,7 @@ unfolding outcome
 passed-fail [] e = tt
 passed-fail (c ∷ cs) e = by (holds (c .when)) refl e (passed-fail cs)
   where
-    by : (b : Bool) → holds (c .when) ≡ b → ifHolds b (refused (c .gives)) (outcome cs) ≡ passed → (outcome cs ≡ passed → AllFail cs) → Fails (c .when) × AllFail cs
+    by : (b : Bool) → holds (c .when) ≡ b → cond b (refused (c .gives)) (outcome cs) ≡ passed → (outcome cs ≡ passed → AllFail cs) → Fails (c .when) × AllFail cs
     by true p q rest = let z : _≡_ {A = ℕ} 0 1 = cc in absurd (omega arith)
     by false p q rest = (fails (c .when) p, rest q)
 

@@ -1,6 +1,6 @@
 -- 01, "Numbered refusals, in order of checking": a list of checks, and the first of them that holds.
 use Prim.Native.Nat.{ℕ}
-use mathlib.Core.Bool.{Bool, true, false, not}
+use mathlib.Core.Bool.{Bool, not, cond}
 use mathlib.Core.List.{List, [], _∷_}
 use lib.Dec.{ltb, leb, eqb}
 use Rattle.refusal.specs.declared.Refusal.{Refusal}
@@ -32,14 +32,10 @@ pub data Outcome : Type 0 where
   passed : Outcome
   refused : Refusal → Outcome
 
-abbrev pub ifHolds : Bool → Outcome → Outcome → Outcome
-ifHolds true yes₁ no₁ = yes₁
-ifHolds false yes₁ no₁ = no₁
-
 -- "in order of checking": the first row whose test holds, else passed
 unfoldable pub outcome : List Check → Outcome
 outcome [] = passed
-outcome (c ∷ cs) = ifHolds (holds (c .when)) (refused (c .gives)) (outcome cs)
+outcome (c ∷ cs) = cond (holds (c .when)) (refused (c .gives)) (outcome cs)
 
 -- what follows from an outcome: one thing on a refusal, another where all passed
 abbrev pub settle {ℓ} : {A : Type ℓ} → Outcome → (Refusal → A) → A → A
