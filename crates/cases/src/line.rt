@@ -57,8 +57,15 @@ pub fn hex(line: &mut Line, at: usize, n: u64, width: usize) -> usize {
     word(line, at, &digits[..k])
 }
 
-// Few bytes in hexadecimal, many by their number and digest.
-pub fn bytes(line: &mut Line, at: usize, data: &[u8]) -> usize {
+// A name, then a number.
+pub fn number(line: &mut Line, at: usize, name: &[u8], n: u64) -> usize {
+    let at = word(line, at, name);
+    decimal(line, at, n)
+}
+
+// A name, then few bytes in hexadecimal, many by their number and digest.
+pub fn bytes(line: &mut Line, at: usize, name: &[u8], data: &[u8]) -> usize {
+    let at = word(line, at, name);
     if data.len() == 0 {
         return byte(line, at, b'-');
     }
@@ -89,10 +96,7 @@ pub fn summary(line: &mut Line, at: usize, count: usize, what: &[u8], digest: u3
 }
 
 pub fn refused(line: &mut Line, at: usize, r: Refusal) -> usize {
-    let at = word(line, at, b"refused ");
-    let at = decimal(line, at, r.number as u64);
-    let at = word(line, at, b" side ");
-    let at = decimal(line, at, r.side as u64);
-    let at = word(line, at, b" position ");
-    decimal(line, at, r.position as u64)
+    let at = number(line, at, b": refused ", r.number as u64);
+    let at = number(line, at, b" side ", r.side as u64);
+    number(line, at, b" position ", r.position as u64)
 }

@@ -1,10 +1,17 @@
 // Runs the product on requests from standard input and prints a line for each.
+mod build_case;
+mod count_case;
+mod decode_case;
 mod digest;
+mod fold_case;
 mod lent;
 mod line;
+mod read_case;
 mod request;
+mod run_case;
 mod spectrum_case;
 
+use line::Line;
 use request::Received;
 use request::Request;
 
@@ -69,9 +76,26 @@ fn answered(r: Request, first: &mut [u8], second: &mut [u8]) -> bool {
     if !request::payload(second) {
         return false;
     }
+    let mut line = line::empty();
+    let at = put(&mut line, r, first);
+    if at == 0 {
+        return false;
+    }
+    line::write(&mut line, at);
+    true
+}
+
+// Puts a case's line together and answers its end, or 0 where the request is not served.
+fn put(line: &mut Line, r: Request, first: &[u8]) -> usize {
     let op = r.op;
     match op {
-        b'S' => spectrum_case::serve(r, first),
-        _ => false,
+        b'S' => spectrum_case::serve(line, r, first),
+        b'D' => decode_case::serve(line, r, first),
+        b'R' => read_case::serve(line, r, first),
+        b'U' => run_case::serve(line, r, first),
+        b'C' => count_case::serve(line, first),
+        b'B' => build_case::serve(line, r, first),
+        b'F' => fold_case::serve(line, r, first),
+        _ => 0,
     }
 }

@@ -20,7 +20,7 @@ groupTotal w gs m = sumMet (λ k a. a * equal k m) gs (ownMasks w) % 65536
 abbrev pub maskAt : ℕ → List Gate → ℕ → ℕ → ℕ
 maskAt w gs p i = getD (masksFrom (take p gs) (ownMasks w)) i 0
 
--- how many phase gates of mask m's group stand before position p
+-- "The group's first gate": how many phase gates of mask m's group stand before position p
 abbrev pub earlier : ℕ → List Gate → ℕ → ℕ → ℕ
 earlier w gs p m = sumMet (λ k a. equal k m) (take p gs) (ownMasks w)
 
@@ -44,6 +44,7 @@ unfoldable pub foldedFrom : ℕ → List Gate → ℕ → List Gate → List Gat
 foldedFrom w gs p [] = []
 foldedFrom w gs p (g ∷ rest) = becomes w gs p g ++ foldedFrom w gs (suc p) rest
 
+-- "Folding: phase gates met at the same mask are one group": all gates of a list on w wires
 abbrev pub folded : ℕ → List Gate → List Gate
 folded w gs = foldedFrom w gs 0 gs
 

@@ -26,7 +26,7 @@ abbrev pub addedTo : Met → List ℕ → List ℕ
 addedTo Mixed ts = ts
 addedTo (Mask m a) ts = set ts m ((getD ts m 0 + a) % 65536)
 
--- the total that a gate finds at the mask that it meets
+-- "the wrapped sum of the group" that a gate finds at the mask that it meets
 abbrev pub found : Met → List ℕ → ℕ
 found Mixed ts = 0
 found (Mask m a) ts = getD ts m 0
@@ -41,6 +41,7 @@ abbrev pub left : ℕ → Gate → List Gate
 left t (Cnot c u) = Cnot c u ∷ []
 left t (Phase i a) = kept i t
 
+-- what stays of a gate: itself, or nothing where it "goes"
 abbrev pub leaves : Left → List Gate
 leaves (Stays g) = g ∷ []
 leaves Goes = []
@@ -49,6 +50,6 @@ leaves Goes = []
 abbrev pub nonzero : ℕ → ℕ
 nonzero a = indicator (not (eqb a 0))
 
--- how many totals are not 0
+-- the score afterwards: how many totals are not 0
 abbrev pub nonzeros : List ℕ → ℕ
 nonzeros ts = sum (length ts) (λ m. nonzero (getD ts m 0))

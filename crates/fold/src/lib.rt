@@ -47,6 +47,7 @@ fn fold_good(file: &[u8], gates: usize, mixing: usize, before: usize, out: &mut 
     if out.len() < length {
         return Folded::Refused(refusal::by(refusal::ROOM));
     }
+    // byte 5 of a file is its wires
     circuit::put_header(file[5], kept as u16, out);
     writer::write_gates(file, gates, &mut totals, out);
     answer(length, before, after)

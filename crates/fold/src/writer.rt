@@ -56,7 +56,7 @@ fn fold_gate(gate: Gate, masks: &mut [u16], totals: &mut [u16]) -> Left
         } => Left::Stays(gate),
         Gate::Phase { wire, angle: _ } => {
             let Met::Mask { mask, angle: _ } = met else {
-                return Left::Goes;
+                return Left::Stays(gate);
             };
             phase(wire, take(totals, mask as usize))
         }

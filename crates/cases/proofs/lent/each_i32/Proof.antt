@@ -13,9 +13,6 @@ abbrev μ-loop : tie.MeasureT-loop
 loop-holds : tie.Need-loop-holds Inv-loop μ-loop
 loop-holds c = search needs
 
-byte-requires : tie.Need-byte-requires Inv-loop μ-loop
-byte-requires c κs = search needs
-
 mul-signed : tie.Need-mul-signed Inv-loop μ-loop
 mul-signed c = search needs
 
@@ -44,7 +41,6 @@ each-i32-spec =
     Inv-loop
     μ-loop
     loop-holds
-    byte-requires
     mul-signed
     shared-slice-copy-out-signed
     signed-requires
