@@ -11,3 +11,4 @@ mod Stepping
 pub mod Writing
 pub mod CountAnswers
 pub mod Groups
+pub mod Meetings

@@ -8,3 +8,6 @@ pub mod Parity
 pub mod Wires
 pub mod Powers
 pub mod Singles
+pub mod Digits
+pub mod Rows
+pub mod Subsets

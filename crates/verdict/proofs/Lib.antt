@@ -1,0 +1,18 @@
+pub mod Cases
+mod Parities
+pub mod Polynomials
+pub mod Ideals
+pub mod Lowest
+pub mod Scanning
+pub mod Sides
+mod Weighing
+mod Tallies
+mod Ends
+mod Adding
+mod Gathering
+pub mod Summaries
+mod Settling
+mod Deciding
+mod Turning
+pub mod Answers
+pub mod Demand

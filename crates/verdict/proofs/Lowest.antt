@@ -1,0 +1,130 @@
+-- The lowest number at which a property fails, and what a verdict says of every start.
+use Prim.Native.Nat.{ℕ, zero, suc, _+_, _^_, _<_, _≤_}
+use native.Mathlib.Decide.{ℕ-discrete, decLt}
+use native.Mathlib.Omega.{arith}
+use mathlib.Core.Path.{_≡_, refl, sym, ap, subst, _∙_}
+use mathlib.Core.Bool.{Bool, true, false, not}
+use borrow.Author.Tests.{lt-ltb, le-ltb, eq-eqb, ne-eqb}
+use Rattle.verdict.specs.declared.Verdict.the-variants.{Same, Different}
+use Rattle.verdict.specs.Coefficients.{difference}
+use Rattle.verdict.specs.Verdicts.{Side, part, first, lowest, verdictAt, verdict}
+use Rattle.verdict.specs.Working.{Lowest}
+
+-- there is no second
+pub lowest-one : (A : ℕ → Type 0) (n p q : ℕ) → Lowest A n p → Lowest A n q → p ≡ q
+lowest-one A n p q x y = by (decLt p q) (decLt q p)
+  where
+    by : Dec (p < q) → Dec (q < p) → p ≡ q
+    by (yes h) d = absurd (x .there (omega (arith, y .within)) (y .before p h))
+    by (no h) (yes k) = absurd (y .there (omega (arith, x .within)) (x .before q k))
+    by (no h) (no k) = omega arith
+
+-- the same for a property that holds of the same numbers below n
+pub lowest-map : (A B : ℕ → Type 0) (n p : ℕ) → ((k : ℕ) → k < n → A k → B k) → ((k : ℕ) → k < n → B k → A k) → Lowest A n p → Lowest B n p
+lowest-map A B n p f g l =
+    record { within = l .within; before = λ k h. f k (omega (arith, l .within)) (l .before k h); there = λ h b. l .there h (g p h b) }
+
+module _ (test : ℕ → Bool) where
+  record Search (n s p : ℕ) : Type 0 where
+    pub least : s ≤ p
+    pub most : p ≤ s + n
+    pub before : (k : ℕ) → s ≤ k → k < p → test k ≡ false
+    pub there : p < s + n → test p ≡ true
+
+  search : (n s : ℕ) → Search n s (lowest test n s)
+  unfolding lowest
+  search zero s = record { least = omega arith; most = omega arith; before = λ k a b. absurd (omega arith); there = λ h. absurd (omega arith) }
+  search (suc n) s = by (test s) refl (search n (suc s))
+    where
+      by : (b : Bool) → test s ≡ b → Search n (suc s) (lowest test n (suc s)) → Search (suc n) s (first b s (lowest test n (suc s)))
+      by true e r = record { least = omega arith; most = omega arith; before = λ k a b. absurd (omega arith); there = λ h. e }
+      by false e r = record { least = omega (arith, r .least); most = omega (arith, r .most); before = λ k a b. at k a b (ℕ-discrete k s); there = λ h. r .there (omega arith) }
+        where
+          at : (k : ℕ) → s ≤ k → k < lowest test n (suc s) → Dec (k ≡ s) → test k ≡ false
+          at k a b (yes d) = ap test d ∙ e
+          at k a b (no d) = r .before k (omega (arith, d)) b
+
+  -- the definition finds it
+  pub lowest-found : (A : ℕ → Type 0) → ((k : ℕ) → test k ≡ false → A k) → ((k : ℕ) → test k ≡ true → A k → ⊥) → (n : ℕ) → Lowest A n (lowest test n 0)
+  lowest-found A holds fails n =
+      let r = search n 0 in
+      record { within = omega (arith, r .most); before = λ k h. holds k (r .before k (omega arith) h); there = λ h. fails (lowest test n 0) (r .there (omega arith)) }
+
+-- a start ends alike under both sides, with the same phase
+pub record Agree (a b : Side) (x : ℕ) : Type 0 where
+  pub ends : a .end x ≡ b .end x
+  pub phases : a .phase x ≡ b .phase x
+
+module _ (a b : Side) where
+  agree : (x : ℕ) → part a b x ≡ false → Agree a b x
+  agree x t = by (ℕ-discrete (a .end x) (b .end x)) (ℕ-discrete (a .phase x) (b .phase x))
+    where
+      by : Dec (a .end x ≡ b .end x) → Dec (a .phase x ≡ b .phase x) → Agree a b x
+      by (yes e) (yes f) = record { ends = e; phases = f }
+      by (yes e) (no f) = let z : true ≡ false = rw (eq-eqb (a .end x) (b .end x) e, ne-eqb (a .phase x) (b .phase x) f) at t in let y : _≡_ {A = ℕ} 0 1 = cc in absurd (omega arith)
+      by (no e) d = let z : true ≡ false = rw (ne-eqb (a .end x) (b .end x) e) at t in let y : _≡_ {A = ℕ} 0 1 = cc in absurd (omega arith)
+
+  differ : (x : ℕ) → part a b x ≡ true → Agree a b x → ⊥
+  differ x t h =
+      let z : false ≡ true = rw (eq-eqb (a .end x) (b .end x) (h .ends), eq-eqb (a .phase x) (b .phase x) (h .phases)) at t in
+      let y : _≡_ {A = ℕ} 0 1 = cc in
+      omega arith
+
+  module _ (w : ℕ) where
+    start : ℕ
+    start = lowest (part a b) (2 ^ w) 0
+
+    found : Lowest (Agree a b) (2 ^ w) start
+    unfolding start
+    found = lowest-found (part a b) (Agree a b) agree differ (2 ^ w)
+
+    -- the verdict is that at the lowest start where the sides part, however it is found
+    pub verdict-found : (p : ℕ) → Lowest (Agree a b) (2 ^ w) p → verdict w a b ≡ verdictAt w a b p
+    unfolding verdict start
+    verdict-found p l = ap (verdictAt w a b) (lowest-one (Agree a b) (2 ^ w) start p found l)
+
+    at-different : (p : ℕ) → p < 2 ^ w → verdictAt w a b p ≡ Different p (a .end p) (b .end p) (difference (a .phase p) (b .phase p))
+    at-different p h = rw (lt-ltb p (2 ^ w) h)
+
+    at-same : (p : ℕ) → 2 ^ w ≤ p → verdictAt w a b p ≡ Same
+    at-same p h = rw (le-ltb p (2 ^ w) h)
+
+    -- Same exactly where every start agrees
+    pub same-agree : verdict w a b ≡ Same → (x : ℕ) → x < 2 ^ w → Agree a b x
+    unfolding verdict start
+    same-agree e x h = by (decLt start (2 ^ w))
+      where
+        by : Dec (start < 2 ^ w) → Agree a b x
+        by (yes l) = let z : Different start (a .end start) (b .end start) (difference (a .phase start) (b .phase start)) ≡ Same = sym (at-different start l) ∙ e in let y : _≡_ {A = ℕ} 0 1 = cc in absurd (omega arith)
+        by (no l) = found .before x (omega arith)
+
+    pub agree-same : ((x : ℕ) → x < 2 ^ w → Agree a b x) → verdict w a b ≡ Same
+    agree-same h =
+        verdict-found (2 ^ w) (record { within = omega arith; before = h; there = λ l. absurd (omega arith) }) ∙ at-same (2 ^ w) (omega arith)
+
+    -- Different names the lowest start that parts, and how
+    pub record Named (s e f p : ℕ) : Type 0 where
+      pub below : s < 2 ^ w
+      pub parts : Agree a b s → ⊥
+      pub before : (x : ℕ) → x < s → Agree a b x
+      pub first-end : e ≡ a .end s
+      pub second-end : f ≡ b .end s
+      pub phase : p ≡ difference (a .phase s) (b .phase s)
+
+    pub different-named : (s e f p : ℕ) → verdict w a b ≡ Different s e f p → Named s e f p
+    unfolding verdict start
+    different-named s e f p v = by (decLt start (2 ^ w))
+      where
+        by : Dec (start < 2 ^ w) → Named s e f p
+        by (yes l) =
+            let z : Different start (a .end start) (b .end start) (difference (a .phase start) (b .phase start)) ≡ Different s e f p = sym (at-different start l) ∙ v in
+            let q : start ≡ s = cc in
+            record {
+              below = omega arith;
+              parts = subst (λ (x : ℕ). Agree a b x → ⊥) q (found .there l);
+              before = λ x h. found .before x (omega arith);
+              first-end = cc;
+              second-end = cc;
+              phase = cc;
+            }
+        by (no l) = let z : Same ≡ Different s e f p = sym (at-same start (omega arith)) ∙ v in let y : _≡_ {A = ℕ} 0 1 = cc in absurd (omega arith)

@@ -1,0 +1,116 @@
+-- The lowest place where coefficients or single-wire ends differ is the lowest start at which the sides part.
+use Prim.Native.Nat.{ℕ, zero, suc, _+_, _-_, _*_, _^_, _<_, _≤_}
+use native.Mathlib.Nat.{one-mul, zero-mul, add-assoc, add-zero, add-comm}
+use native.Mathlib.Decide.{ℕ-discrete, decLt}
+use native.Mathlib.Omega.{arith}
+use mathlib.Core.Path.{_≡_, refl, sym, ap, ap₂, subst, _∙_}
+use mathlib.Core.Logic.{_⊎_, inl, inr}
+use lib.Bits.{bitXor}
+use lib.Pow.{pow-lt, pow-mono}
+use Rattle.numbers.specs.Bits.{bit, subset}
+use Rattle.numbers.specs.Sums.{sum, sumOf}
+use Rattle.numbers.specs.Turn.{_≈_}
+use Rattle.numbers.proofs.Sums.{ℕ-adds, sumOf-ext, sumOf-split}
+use Rattle.numbers.proofs.Subsets.{subset-self, subset-above, sum-zero}
+use Rattle.numbers.proofs.Turns.{≈-of, ≈-sym, ≈-add, ≈-refl, ≈-cancel, ≈-small, _≈∙_}
+use Rattle.numbers.proofs.Digits.{by-bits}
+use Rattle.verdict.specs.Coefficients.{difference}
+use Rattle.verdict.specs.Verdicts.{Side}
+use Rattle.verdict.specs.Working.{Lowest, Place}
+use Rattle.verdict.proofs.Lowest.{Agree}
+
+-- a side whose phase is the polynomial of its coefficients, and whose ends respect exclusive or
+pub record Summed (w : ℕ) (a : Side) (c : ℕ → ℕ) : Type 0 where
+  pub polynomial : (x : ℕ) → x < 2 ^ w → a .phase x ≈ sum (2 ^ w) (λ s. subset s x * c s)
+  pub phases : (x : ℕ) → a .phase x < 65536
+  pub small : (s : ℕ) → c s < 65536
+  pub linear : (x y : ℕ) → a .end (bitXor x y) ≡ bitXor (a .end x) (a .end y)
+
+-- no set above x lies within x
+up-to : (w x : ℕ) (c : ℕ → ℕ) → x < 2 ^ w → sum (2 ^ w) (λ s. subset s x * c s) ≡ sum x (λ s. subset s x * c s) + c x
+up-to w x c h =
+    let r = 2 ^ w - suc x in
+    ap (λ (n : ℕ). sum n (λ s. subset s x * c s)) (let e : 2 ^ w ≡ suc x + r = omega arith in e)
+    ∙ sumOf-split 0 _+_ ℕ-adds (suc x) r (λ s. subset s x * c s)
+    ∙ ap₂ _+_ (ap (sum x (λ s. subset s x * c s) +_) (ap (_* c x) (subset-self x) ∙ one-mul (c x)))
+    (sum-zero r (λ i. subset (suc x + i) x * c (suc x + i)) (λ i l. ap (_* c (suc x + i)) (subset-above (suc x + i) x (omega arith)) ∙ zero-mul (c (suc x + i))))
+    ∙ add-zero (sum x (λ s. subset s x * c s) + c x)
+
+module _ (w : ℕ) (a b : Side) (c d : ℕ → ℕ) (sa : Summed w a c) (sb : Summed w b d) where
+  module _ (x : ℕ) (h : x < 2 ^ w) (below : (s : ℕ) → s < x → c s ≡ d s) where
+    -- where everything below x agrees, the phases differ at x as the coefficients do
+    pub triangular : a .phase x + d x ≈ b .phase x + c x
+    triangular =
+        let p = sum x (λ s. subset s x * c s) in
+        let q = sum x (λ s. subset s x * d s) in
+        let e : p ≡ q = sumOf-ext 0 _+_ x (λ s. subset s x * c s) (λ s. subset s x * d s) (λ s l. ap (subset s x *_) (below s l)) in
+        ≈-add (sa .polynomial x h ≈∙ ≈-of (up-to w x c h)) (≈-refl {a = d x})
+        ≈∙ ≈-of (let z : p + c x + d x ≡ q + d x + c x = omega arith in z)
+        ≈∙ ≈-add (≈-sym (sb .polynomial x h ≈∙ ≈-of (up-to w x d h))) (≈-refl {a = c x})
+
+    pub phase-difference : difference (a .phase x) (b .phase x) ≡ difference (c x) (d x)
+    phase-difference = off (a .phase x) (b .phase x) (c x) (d x) (sb .phases x) (sb .small x) triangular .turned
+      where
+        off : (p q m n : ℕ) → q < 65536 → n < 65536 → p + n ≈ q + m → p + 65536 - q ≈ m + 65536 - n
+        off p q m n hq hn e =
+            ≈-cancel (q + n)
+            (≈-of (let z : p + 65536 - q + (q + n) ≡ p + n + 65536 = omega arith in z) ≈∙ ≈-add e (≈-refl {a = 65536}) ≈∙ ≈-of (let z : q + m + 65536 ≡ m + 65536 - n + (q + n) = omega arith in z))
+
+    pub coefficients-agree : a .phase x ≡ b .phase x → c x ≡ d x
+    coefficients-agree e =
+        ≈-small (sa .small x) (sb .small x)
+        (≈-cancel (a .phase x) (≈-of (add-comm (c x) (a .phase x) ∙ ap (_+ c x) e) ≈∙ ≈-sym triangular ≈∙ ≈-of (add-comm (a .phase x) (d x))))
+
+    phases-agree : c x ≡ d x → a .phase x ≡ b .phase x
+    phases-agree e = ≈-small (sa .phases x) (sb .phases x) (≈-cancel (d x) (triangular ≈∙ ≈-of (ap (b .phase x +_) e)))
+
+  -- single wires fix the ends
+  ends-agree : (i x : ℕ) → x < 2 ^ i → ((j : ℕ) → j < i → a .end (2 ^ j) ≡ b .end (2 ^ j)) → a .end x ≡ b .end x
+  ends-agree i x h e =
+      by-bits (a .end) (sa .linear) i x h
+      ∙ sumOf-ext 0 bitXor i (λ j. bit x j * a .end (2 ^ j)) (λ j. bit x j * b .end (2 ^ j)) (λ j l. ap (bit x j *_) (e j l))
+      ∙ sym (by-bits (b .end) (sb .linear) i x h)
+
+  -- same everywhere exactly where all coefficients and all single-wire ends agree
+  pub agree-everywhere : ((s : ℕ) → s < 2 ^ w → c s ≡ d s) → ((j : ℕ) → j < w → a .end (2 ^ j) ≡ b .end (2 ^ j)) → (x : ℕ) → x < 2 ^ w → Agree a b x
+  agree-everywhere p q x h = record { ends = ends-agree w x h q; phases = phases-agree x h (λ s l. p s (omega arith)) (p x h) }
+
+  pub everywhere-coefficients : ((x : ℕ) → x < 2 ^ w → Agree a b x) → (s : ℕ) → s < 2 ^ w → c s ≡ d s
+  everywhere-coefficients e s h = upto (suc s) (omega arith) s (omega arith)
+    where
+      upto : (n : ℕ) → n ≤ 2 ^ w → (s : ℕ) → s < n → c s ≡ d s
+      upto zero l s k = absurd (omega arith)
+      upto (suc n) l s k = by (upto n (omega arith)) (ℕ-discrete s n)
+        where
+          by : ((s : ℕ) → s < n → c s ≡ d s) → Dec (s ≡ n) → c s ≡ d s
+          by before (yes q) = subst (λ (m : ℕ). c m ≡ d m) (sym q) (coefficients-agree n (omega arith) before (e n (omega arith) .phases))
+          by before (no q) = before s (omega (arith, q))
+
+  pub everywhere-ends : ((x : ℕ) → x < 2 ^ w → Agree a b x) → (j : ℕ) → j < w → a .end (2 ^ j) ≡ b .end (2 ^ j)
+  everywhere-ends e j h = e (2 ^ j) (pow-lt h) .ends
+
+  -- the scan
+  module _ (p : ℕ) (l : Place (λ s. c s ≡ d s) (2 ^ w) (λ j. a .end (2 ^ j) ≡ b .end (2 ^ j)) w p) where
+    agree-below : (s : ℕ) → s < p → c s ≡ d s
+    agree-below s h = l .places .before s (omega (arith, l .low))
+
+    pub scan-finds : Lowest (Agree a b) (2 ^ w) p
+    scan-finds =
+        record {
+          within = omega (arith, l .places .within, l .low);
+          before = λ x h.
+              let k : x < 2 ^ w = omega (arith, l .places .within, l .low) in
+              record { ends = ends-agree (l .wire) x (omega (arith, l .high)) (l .wires .before); phases = phases-agree x k (λ s m. agree-below s (omega arith)) (agree-below x h) };
+          there = λ h g. by (l .one) h g;
+        }
+      where
+        by : (p ≡ l .place) ⊎ (p ≡ 2 ^ l .wire) → p < 2 ^ w → Agree a b p → ⊥
+        by (inl e) h g = l .places .there (omega arith) (subst (λ (m : ℕ). c m ≡ d m) e (coefficients-agree p h agree-below (g .phases)))
+        by (inr e) h g = l .wires .there (inside (decLt (l .wire) w)) (subst (λ (m : ℕ). a .end m ≡ b .end m) e (g .ends))
+          where
+            inside : Dec (l .wire < w) → l .wire < w
+            inside (yes k) = k
+            inside (no k) = absurd (omega (arith, pow-mono {i = w} {j = l .wire} (omega arith)))
+
+    pub scan-phase : p < 2 ^ w → difference (a .phase p) (b .phase p) ≡ difference (c p) (d p)
+    scan-phase h = phase-difference p h agree-below

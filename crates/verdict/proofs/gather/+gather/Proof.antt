@@ -1,0 +1,151 @@
+use mathlib.Core.Path.{refl, sym, _∙_}
+use lib.ListN.{length}
+use lib.Seq.{length-take-le}
+use Rattle.verdict.proofs.Gathering.{one-entry, first-falls, row-long, second-falls, joined-long, mix-gives}
+use native.Mathlib.Omega.{arith}
+use Prim.Native.Nat.{ℕ, _<_}
+use borrow.Fn.Kinds.{In}
+use borrow.Fn.PlainCycle.{Measures, is, falls, and}
+use Rattle.verdict.proofs.gather.gather.Reads as gather
+use Rattle.verdict.proofs.gather.gather.Kinds as gather-kinds
+use Rattle.verdict.proofs.gather.+gather.Lts-gather as gather-lts
+use Rattle.verdict.proofs.gather.mix.Reads as mix-reads
+use Rattle.verdict.proofs.gather.+gather.{statement}
+use Rattle.verdict.proofs.gather.+gather.Tie.{close}
+
+abbrev μ-gather : Measures 1 gather-kinds.ps ℕ
+μ-gather κs a = length (a .0 .now)
+
+abbrev gather-at : ℕ → In 1 gather-kinds.ps
+gather-at t = and 1 gather-kinds.ps (is 1 gather-kinds.ps μ-gather t) gather.Pre
+
+abbrev gather-below : ℕ → In 1 gather-kinds.ps
+gather-below t = and 1 gather-kinds.ps (falls 1 gather-kinds.ps _<_ μ-gather t) gather.Pre
+
+gather-slice-relend-prefix-gather : (t : ℕ) → gather-lts.Need-slice-relend-prefix-gather (
+  gather-below t,
+  gather.Post,
+  mix-reads.Asked,
+  mix-reads.Learnt,
+) (gather-at t) gather.Post
+gather-slice-relend-prefix-gather t c = omega arith
+
+gather-slice-aggregate-gather : (t : ℕ) → gather-lts.Need-slice-aggregate-gather (
+  gather-below t,
+  gather.Post,
+  mix-reads.Asked,
+  mix-reads.Learnt,
+) (gather-at t) gather.Post
+gather-slice-aggregate-gather t c = sym (length-take-le _ (c .before .before .before .args .v .now) (omega arith))
+
+gather-gather-requires : (t : ℕ) → gather-lts.Need-gather-requires (
+  gather-below t,
+  gather.Post,
+  mix-reads.Asked,
+  mix-reads.Learnt,
+) (gather-at t) gather.Post
+gather-gather-requires t c κs = (omega (arith, first-falls (c .before .before .before .args .up) (c .before .before .before .args .v .now) _ refl (c .before .if1 .taken)), tt)
+
+gather-mul-gather : (t : ℕ) → gather-lts.Need-mul-gather (
+  gather-below t,
+  gather.Post,
+  mix-reads.Asked,
+  mix-reads.Learnt,
+) (gather-at t) gather.Post
+gather-mul-gather t c = omega arith
+
+gather-sub-gather : (t : ℕ) → gather-lts.Need-sub-gather (
+  gather-below t,
+  gather.Post,
+  mix-reads.Asked,
+  mix-reads.Learnt,
+) (gather-at t) gather.Post
+gather-sub-gather t c = omega (arith, row-long (c .before .before .before .before .before .before .args .up) (c .before .before .before .before .before .before .args .v .now) _ refl (c .before .before .before .before .if1 .taken) (c .before .before .gather .last .0) (c .before .before .gather .kept .0))
+
+gather-part-gather-start : (t : ℕ) → gather-lts.Need-part-gather-start (
+  gather-below t,
+  gather.Post,
+  mix-reads.Asked,
+  mix-reads.Learnt,
+) (gather-at t) gather.Post
+gather-part-gather-start t c = omega (arith, row-long (c .before .before .before .before .before .before .args .up) (c .before .before .before .before .before .before .args .v .now) _ refl (c .before .before .before .before .if1 .taken) (c .before .before .gather .last .0) (c .before .before .gather .kept .0))
+
+gather-part-gather-end : (t : ℕ) → gather-lts.Need-part-gather-end (
+  gather-below t,
+  gather.Post,
+  mix-reads.Asked,
+  mix-reads.Learnt,
+) (gather-at t) gather.Post
+gather-part-gather-end t c = omega arith
+
+gather-gather-requires-2 : (t : ℕ) → gather-lts.Need-gather-requires-2 (
+  gather-below t,
+  gather.Post,
+  mix-reads.Asked,
+  mix-reads.Learnt,
+) (gather-at t) gather.Post
+gather-gather-requires-2 t c κs = (omega (arith, second-falls (c .before .before .before .before .before .before .before .args .up) (c .before .before .before .before .before .before .before .args .v .now) _ refl (c .before .before .before .before .before .if1 .taken) (c .before .before .before .gather .last .0) (c .before .before .before .gather .kept .0)), tt)
+
+gather-mix-requires : (t : ℕ) → gather-lts.Need-mix-requires (
+  gather-below t,
+  gather.Post,
+  mix-reads.Asked,
+  mix-reads.Learnt,
+) (gather-at t) gather.Post
+gather-mix-requires t c κs =
+    let f = c .before .before .before .before .before .before .before .gather in
+    let g = c .before .before .before .gather2 in
+    omega (arith, joined-long (c .before .before .before .before .before .before .before .before .before .before .before .args .up) (c .before .before .before .before .before .before .before .before .before .before .before .args .v .now) _ refl (c .before .before .before .before .before .before .before .before .before .if1 .taken) (f .last .0) (f .kept .0) (g .last .0) (g .kept .0))
+
+gather-same-length : (t : ℕ) → gather-lts.Need-same-length (
+  gather-below t,
+  gather.Post,
+  mix-reads.Asked,
+  mix-reads.Learnt,
+) (gather-at t) gather.Post
+gather-same-length t c =
+    let f = c .before .before .before .before .before .before .before .before .before .before .gather in
+    let g = c .before .before .before .before .before .before .gather2 in
+    c .before .before .mix .kept .0 ∙ joined-long (c .before .before .before .before .before .before .before .before .before .before .before .before .before .before .args .up) (c .before .before .before .before .before .before .before .before .before .before .before .before .before .before .args .v .now) _ refl (c .before .before .before .before .before .before .before .before .before .before .before .before .if1 .taken) (f .last .0) (f .kept .0) (g .last .0) (g .kept .0)
+
+gather-returns : (t : ℕ) → gather-lts.Need-returns (
+  gather-below t,
+  gather.Post,
+  mix-reads.Asked,
+  mix-reads.Learnt,
+) (gather-at t) gather.Post
+gather-returns t c =
+    let f = c .before .before .before .before .before .before .before .before .before .before .gather in
+    let g = c .before .before .before .before .before .before .gather2 in
+    let m = c .before .before .mix in
+    mix-gives (c .before .before .before .before .before .before .before .before .before .before .before .before .before .before .args .up) (c .before .before .before .before .before .before .before .before .before .before .before .before .before .before .args .v .now) _ refl (c .before .before .before .before .before .before .before .before .before .before .before .before .if1 .taken) (f .last .0) (f .kept .0) (g .last .0) (g .kept .0) (f .ensures) (g .ensures) (m .last .0) (m .ensures)
+
+gather-returns-2 : (t : ℕ) → gather-lts.Need-returns-2 (
+  gather-below t,
+  gather.Post,
+  mix-reads.Asked,
+  mix-reads.Learnt,
+) (gather-at t) gather.Post
+gather-returns-2 t c = one-entry (c .before .before .args .up) (c .before .before .args .v .now) (c .before .slice-known .given 0 .fits) (c .if1 .left)
+
+pub +gather-spec : {M : Type 1} → statement M
++gather-spec = close μ-gather λ t. gather-lts.spec (
+  gather-below t,
+  gather.Post,
+  mix-reads.Asked,
+  mix-reads.Learnt,
+)
+    (gather-at t)
+    gather.Post
+    (gather-slice-relend-prefix-gather t)
+    (gather-slice-aggregate-gather t)
+    (gather-gather-requires t)
+    (gather-mul-gather t)
+    (gather-sub-gather t)
+    (gather-part-gather-start t)
+    (gather-part-gather-end t)
+    (gather-gather-requires-2 t)
+    (gather-mix-requires t)
+    (gather-same-length t)
+    (gather-returns t)
+    (gather-returns-2 t)

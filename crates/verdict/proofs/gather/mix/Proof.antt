@@ -1,0 +1,38 @@
+use mathlib.Core.Path.{sym, ap, _∙_}
+use mathlib.Core.Bool.{Bool}
+use mathlib.Core.Logic.{inl, inr}
+use Rattle.verdict.specs.Working.{mixed}
+use Rattle.verdict.proofs.Adding.{mixed-up, mixed-down}
+use native.Mathlib.Omega.{arith}
+use borrow.Author.Needs.{needs}
+use Rattle.verdict.proofs.gather.mix.Statement.{statement}
+use Rattle.verdict.proofs.gather.mix.Tie as tie
+
+add-rows-requires : tie.Need-add-rows-requires
+add-rows-requires c κs = (omega arith, (omega arith, inl (omega arith)))
+
+add-rows-requires-2 : tie.Need-add-rows-requires-2
+add-rows-requires-2 c κs = (omega arith, (omega arith, inr (omega arith)))
+
+same-length : tie.Need-same-length
+same-length c = search needs
+
+returns : tie.Need-returns
+returns c =
+    let a = c .before .before .before .before .before .before .args in
+    let r = c .before .before .add-rows in
+    λ e. mixed-up (a .half) (a .v .now) (r .last .0) e (r .ensures) ∙ ap (λ (b : Bool). mixed b (a .half) (a .v .now)) (sym (c .before .before .before .before .if1 .taken))
+
+same-length-2 : tie.Need-same-length-2
+same-length-2 c = search needs
+
+returns-2 : tie.Need-returns-2
+returns-2 c =
+    let a = c .before .before .before .before .before .before .args in
+    let r = c .before .before .add-rows2 in
+    λ e. mixed-down (a .half) (a .v .now) (r .last .0) e (r .ensures) ∙ ap (λ (b : Bool). mixed b (a .half) (a .v .now)) (sym (c .before .before .before .before .if1 .left))
+
+pub mix-spec : {M : Type 1} → statement M
+mix-spec =
+    tie.close
+    (tie.spec add-rows-requires add-rows-requires-2 same-length returns same-length-2 returns-2)

@@ -1,0 +1,53 @@
+use Rattle.verdict.proofs.Tallies.{mixed-adds, mask-adds}
+use borrow.Author.Needs.{needs}
+use Rattle.verdict.proofs.summary.add_gate.Statement.{statement}
+use Rattle.verdict.proofs.summary.add_gate.Tie as tie
+
+walk-requires : tie.Need-walk-requires
+walk-requires c κs = search needs
+
+enum-told : tie.Need-enum-told
+enum-told c = search needs
+
+enum-known-mask : tie.Need-enum-known-mask
+enum-known-mask c = search needs
+
+add-at-requires : tie.Need-add-at-requires
+add-at-requires c κs = search needs
+
+same-length : tie.Need-same-length
+same-length c = search needs
+
+returns : tie.Need-returns
+returns c =
+    let w = c .before .before .before .before in
+    let a = w .before .before .before .before .args in
+    mixed-adds (a .gate) (a .masks .now) (w .walk .last .0) (w .walk .result) (a .v .now) (w .walk .ensures) (c .enum-told .given .1)
+
+same-length-2 : tie.Need-same-length-2
+same-length-2 c = search needs
+
+same-length-3 : tie.Need-same-length-3
+same-length-3 c = search needs
+
+returns-2 : tie.Need-returns-2
+returns-2 c =
+    let w = c .before .before .before .before .before .before .before .before .before in
+    let a = c .before .before .before .before .before .before .before .before .before .before .before .before .before .args in
+    let m = c .before .before .before .before .before .mask .given in
+    let p = c .before .before .add-at in
+    mask-adds (a .gate) (a .masks .now) (w .walk .last .0) (w .walk .result) (m .0 .0) (m .0 .1 .0) (a .v .now) (p .last .0) (w .walk .ensures) (m .1) (p .ensures)
+
+pub add-gate-spec : {M : Type 1} → statement M
+add-gate-spec =
+    tie.close
+    (tie.spec
+    walk-requires
+    enum-told
+    enum-known-mask
+    add-at-requires
+    same-length
+    returns
+    same-length-2
+    same-length-3
+    returns-2)

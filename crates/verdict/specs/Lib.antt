@@ -1,0 +1,4 @@
+pub mod Coefficients
+pub mod Verdicts
+pub mod Judging
+pub mod Working
