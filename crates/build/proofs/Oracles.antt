@@ -24,7 +24,7 @@ pub built-long : (n : ℕ) (t : List ℕ) → 0 < n → length (builtFile n t) �
 built-long n t p = omega (arith, length-file (n + 1) (construction n (valueAt t)), count-is n (valueAt t) p, pow-add 2 n 2, pow-add 2 n 4)
 
 module _ (n : ℕ) (t : List ℕ) (p : 0 < n) (small : n ≤ 8) where
-  few-gates : length (construction n (valueAt t)) ≤ 2048
+  pub few-gates : length (construction n (valueAt t)) ≤ 2048
   few-gates = omega (arith, count-is n (valueAt t) p, pow-mono {i = n + 2} {j = 10} (omega arith))
 
   -- read accepts it, with n + 1 wires and 2^(n+2) - 2 gates

@@ -10,6 +10,7 @@ mod read_case;
 mod request;
 mod run_case;
 mod spectrum_case;
+mod verdict_case;
 
 use line::Line;
 use request::Received;
@@ -77,7 +78,7 @@ fn answered(r: Request, first: &mut [u8], second: &mut [u8]) -> bool {
         return false;
     }
     let mut line = line::empty();
-    let at = put(&mut line, r, first);
+    let at = put(&mut line, r, first, second);
     if at == 0 {
         return false;
     }
@@ -86,7 +87,7 @@ fn answered(r: Request, first: &mut [u8], second: &mut [u8]) -> bool {
 }
 
 // Puts a case's line together and answers its end, or 0 where the request is not served.
-fn put(line: &mut Line, r: Request, first: &[u8]) -> usize {
+fn put(line: &mut Line, r: Request, first: &[u8], second: &[u8]) -> usize {
     let op = r.op;
     match op {
         b'S' => spectrum_case::serve(line, r, first),
@@ -96,6 +97,8 @@ fn put(line: &mut Line, r: Request, first: &[u8]) -> usize {
         b'C' => count_case::serve(line, first),
         b'B' => build_case::serve(line, r, first),
         b'F' => fold_case::serve(line, r, first),
+        b'P' => verdict_case::serve_compare(line, r, first, second),
+        b'J' => verdict_case::serve_judge(line, r, first, second),
         _ => 0,
     }
 }

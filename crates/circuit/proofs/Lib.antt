@@ -12,3 +12,4 @@ pub mod Writing
 pub mod CountAnswers
 pub mod Groups
 pub mod Meetings
+pub mod FileBytes

@@ -1,0 +1,1 @@
+// The promises of the tender, as theorems over every crate below: proofs/.
