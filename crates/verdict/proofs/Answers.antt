@@ -4,14 +4,14 @@ use native.Mathlib.Nat.{mod-eq-of-lt, lt-of-le-of-lt}
 use native.Mathlib.Omega.{arith}
 use mathlib.Core.Path.{_≡_, refl, sym, ap, ap₂, _∙_}
 use mathlib.Core.Logic.{inl, inr}
-use mathlib.Core.List.{List, [], _∷_, _++_}
+use mathlib.Core.List.{List, _++_}
 use lib.Dec.{lit<}
 use lib.ListN.{length, drop}
 use lib.Pow.{pow-mono}
 use Rattle.numbers.proofs.Lists.{length-list}
 use Rattle.refusal.specs.declared.Refusal.{Refusal}
 use Rattle.refusal.specs.Names.{refusal, UNLIKE, ROOM}
-use Rattle.refusal.specs.Checks.{Check, Outcome, passed, refused, outcome}
+use Rattle.refusal.specs.Checks.{Check, passed, refused, outcome}
 use Rattle.refusal.specs.Contract.{values, Meets}
 use Rattle.refusal.proofs.Outcomes.{reaches, then-refused, then-passed}
 use Rattle.refusal.proofs.Contracts.{Distinct, same-refusal, one-answer, meets-refused, meets-passed}

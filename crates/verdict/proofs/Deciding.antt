@@ -2,7 +2,7 @@
 use Prim.Native.Nat.{ℕ, _*_, _^_, _<_, _≤_}
 use native.Mathlib.Decide.{decLt}
 use native.Mathlib.Omega.{arith}
-use mathlib.Core.Path.{_≡_, refl, sym, ap, ap₂, subst, _∙_}
+use mathlib.Core.Path.{_≡_, sym, ap, ap₂, subst, _∙_}
 use mathlib.Core.List.{List, _++_}
 use lib.Bits.{bitXor}
 use lib.Dec.{ltb}
@@ -24,7 +24,7 @@ use Rattle.circuit.proofs.Decoding.{Bytes}
 use Rattle.circuit.proofs.Files.{good-file, file-sound}
 use Rattle.circuit.proofs.Masks.{powers-own}
 use Rattle.verdict.specs.declared.Verdict.{Verdict}
-use Rattle.verdict.specs.declared.Verdict.the-variants.{Same, Different}
+use Rattle.verdict.specs.declared.Verdict.the-variants.{Different}
 use Rattle.verdict.specs.Coefficients.{coefficient, difference, differences}
 use Rattle.verdict.specs.Verdicts.{Side, circuit, differentIf, verdictAt, verdict}
 use Rattle.verdict.specs.Working.{entry, endOf, Lowest, Place, Settled, Decided}

@@ -1,5 +1,5 @@
 -- The ends of single-wire starts, from the masks.
-use Prim.Native.Nat.{ℕ, suc, _+_, _*_, _%_, _^_, _<_, _≤_}
+use Prim.Native.Nat.{ℕ, _+_, _*_, _%_, _^_, _<_, _≤_}
 use native.Mathlib.Nat.{mod-eq-of-lt}
 use native.Mathlib.Numerals.{add-one}
 use native.Mathlib.Omega.{arith}
@@ -7,7 +7,6 @@ use mathlib.Core.Path.{_≡_, sym, ap, _∙_}
 use mathlib.Core.List.{List}
 use lib.Pow.{pow-lt, pow-mono}
 use Rattle.numbers.specs.Bits.{bit}
-use Rattle.numbers.specs.Sums.{sum}
 use Rattle.numbers.proofs.Sums.{sumOf-ext}
 use Rattle.numbers.proofs.Digits.{digits, digits-below}
 use Rattle.numbers.proofs.Parity.{dot-comm}

@@ -2,10 +2,10 @@
 use Prim.Native.Nat.{ℕ, zero, suc, _+_, _-_, _*_, _/_, _%_, _^_, _<_, _≤_}
 use native.Mathlib.Nat.{add-mod, add-zero, zero-add, add-comm, zero-mul, one-mul, mod-eq-of-lt, two-pow-succ}
 use native.Mathlib.Omega.{arith}
-use mathlib.Core.Path.{_≡_, refl, sym, ap, ap₂, _∙_}
+use mathlib.Core.Path.{_≡_, sym, ap, ap₂, _∙_}
 use mathlib.Core.Bool.{Bool, true, false}
 use mathlib.Core.List.{List, _++_}
-use lib.ListN.{length, take, drop, length-append, length-drop, List·getD-append}
+use lib.ListN.{length, take, drop, length-drop, List·getD-append}
 use lib.Seq.{length-take-le, length-front, getD-take, getD-drop, getD-append-add}
 use lib.Pow.{pow-pos}
 use borrow.Rule.Slice.PartMut.{putMid, same-len-mid}
@@ -28,21 +28,21 @@ around-ext : (up : Bool) (n : ℕ) (v u : ℕ → ℕ) (s : ℕ) → ((m : ℕ) 
 around-ext up n v u s h = sumOf-ext 0 _+_ (2 ^ n) (λ m. counts up s m * v m) (λ m. counts up s m * u m) (λ m l. ap (counts up s m *_) (h m l))
 
 module _ (n : ℕ) (v : ℕ → ℕ) (s : ℕ) (hs : s < 2 ^ n) where
-  same-counts : (up : Bool) (x : ℕ) (u : ℕ → ℕ) (f : ℕ → ℕ) → ((m : ℕ) → m < 2 ^ n → f m ≡ counts up s m) → sum (2 ^ n) (λ m. f m * u m) ≡ sumAround up n u s
-  same-counts up x u f h = sumOf-ext 0 _+_ (2 ^ n) (λ m. f m * u m) (λ m. counts up s m * u m) (λ m l. ap (_* u m) (h m l))
+  same-counts : (up : Bool) (u : ℕ → ℕ) (f : ℕ → ℕ) → ((m : ℕ) → m < 2 ^ n → f m ≡ counts up s m) → sum (2 ^ n) (λ m. f m * u m) ≡ sumAround up n u s
+  same-counts up u f h = sumOf-ext 0 _+_ (2 ^ n) (λ m. f m * u m) (λ m. counts up s m * u m) (λ m l. ap (_* u m) (h m l))
 
   no-counts : (u : ℕ → ℕ) (f : ℕ → ℕ) → ((m : ℕ) → m < 2 ^ n → f m ≡ 0) → sum (2 ^ n) (λ m. f m * u m) ≡ 0
   no-counts u f h = sum-zero (2 ^ n) (λ m. f m * u m) (λ m l. ap (_* u m) (h m l) ∙ zero-mul (u m))
 
   -- the sets that contain s: with and without the highest wire, or with it alone
   up-low : sumAround true (suc n) v s ≡ sumAround true n v s + sumAround true n (upper n v) s
-  up-low = sum-halves n (λ m. subset s m * v m) ∙ ap (sumAround true n v s +_) (same-counts true s (upper n v) (λ m. subset s (2 ^ n + m)) (λ m l. subset-low-high n s m hs l))
+  up-low = sum-halves n (λ m. subset s m * v m) ∙ ap (sumAround true n v s +_) (same-counts true (upper n v) (λ m. subset s (2 ^ n + m)) (λ m l. subset-low-high n s m hs l))
 
   up-high : sumAround true (suc n) v (2 ^ n + s) ≡ sumAround true n (upper n v) s
   up-high =
       sum-halves n (λ m. subset (2 ^ n + s) m * v m)
       ∙ ap₂ _+_ (no-counts v (λ m. subset (2 ^ n + s) m) (λ m l. subset-high-low n s m hs l))
-      (same-counts true s (upper n v) (λ m. subset (2 ^ n + s) (2 ^ n + m)) (λ m l. subset-high-high n s m hs l))
+      (same-counts true (upper n v) (λ m. subset (2 ^ n + s) (2 ^ n + m)) (λ m l. subset-high-high n s m hs l))
       ∙ zero-add (sumAround true n (upper n v) s)
 
   -- the sets that lie in s
@@ -54,8 +54,8 @@ module _ (n : ℕ) (v : ℕ → ℕ) (s : ℕ) (hs : s < 2 ^ n) where
   down-high : sumAround false (suc n) v (2 ^ n + s) ≡ sumAround false n v s + sumAround false n (upper n v) s
   down-high =
       sum-halves n (λ m. subset m (2 ^ n + s) * v m)
-      ∙ ap₂ _+_ (same-counts false s v (λ m. subset m (2 ^ n + s)) (λ m l. subset-low-high n m s l hs))
-      (same-counts false s (upper n v) (λ m. subset (2 ^ n + m) (2 ^ n + s)) (λ m l. subset-high-high n m s l hs))
+      ∙ ap₂ _+_ (same-counts false v (λ m. subset m (2 ^ n + s)) (λ m l. subset-low-high n m s l hs))
+      (same-counts false (upper n v) (λ m. subset (2 ^ n + m) (2 ^ n + s)) (λ m l. subset-high-high n m s l hs))
 
 pub length-gathered : (up : Bool) (n : ℕ) (v : List ℕ) → length (gathered up n v) ≡ 2 ^ n
 unfolding gathered

@@ -1,8 +1,8 @@
 -- The ideal's phase is the sum of its coefficients over subsets.
 use Prim.Native.Nat.{ℕ, zero, suc, _+_, _-_, _*_, _/_, _%_, _^_, _<_}
-use native.Mathlib.Nat.{mul-comm, mul-assoc, zero-mul, one-mul, mul-one, zero-add, add-zero, mod-lt, mod-eq-of-lt, div-eq-of-lt}
+use native.Mathlib.Nat.{mul-assoc, zero-mul, one-mul, zero-add, mod-lt, mod-eq-of-lt, div-eq-of-lt}
 use native.Mathlib.Omega.{arith}
-use mathlib.Core.Path.{_≡_, refl, sym, ap, ap₂, _∙_}
+use mathlib.Core.Path.{_≡_, sym, ap, ap₂, _∙_}
 use lib.Pow.{pow-pos, high}
 use Rattle.numbers.specs.Bits.{bit, equal, subset}
 use Rattle.numbers.specs.Sums.{sum}
@@ -10,8 +10,7 @@ use Rattle.numbers.specs.Turn.{_≈_}
 use Rattle.numbers.proofs.Sums.{ℕ-adds, sumOf-ext, sumOf-swap}
 use Rattle.numbers.proofs.Subsets.{subset-even, subset-odd, subset-in-even, subset-in-odd, subset-none, subset-self, subset-above, subset-block, subset-low-high, equal-low, sum-scale, sum-pick, sum-zero, sum-bits, sum-halves}
 use Rattle.numbers.proofs.Angles.{≈-sum}
-use Rattle.numbers.proofs.Parity.{equal-yes, equal-no}
-use Rattle.numbers.proofs.Turns.{≈-of, ≈-mod, ≈-sym, ≈-mul, ≈-refl, ≈-turns, ≈-add, _≈∙_}
+use Rattle.numbers.proofs.Turns.{≈-of, ≈-mod, ≈-sym, ≈-mul, ≈-refl, ≈-turns, _≈∙_}
 use Rattle.numbers.proofs.Digits.{top-bit}
 use Rattle.verdict.specs.Coefficients.{idealCoefficient}
 use Rattle.verdict.specs.Verdicts.{ideal}

@@ -1,5 +1,5 @@
 pub mod Cases
-mod Parities
+pub mod Parities
 pub mod Polynomials
 pub mod Ideals
 pub mod Lowest

@@ -1,6 +1,6 @@
 -- Parity as a signed sum over subsets: m.x is the sum over the nonempty S within m and x of (-2)^(|S|-1).
 use Prim.Native.Nat.{ℕ, zero, suc, _+_, _*_, _/_, _%_, _^_, _<_}
-use native.Mathlib.Nat.{pow-succ', mul-zero, mul-one, one-mul, zero-add}
+use native.Mathlib.Nat.{pow-succ', zero-add}
 use native.Mathlib.Numerals.{one-add}
 use native.Mathlib.Omega.{arith}
 use mathlib.Core.Path.{_≡_, refl, sym, ap, ap₂, _∙_}
@@ -11,7 +11,7 @@ use Rattle.numbers.specs.Turn.{_≈_}
 use Rattle.numbers.proofs.Sums.{ℕ-adds, sumOf-ext, sumOf-plus}
 use Rattle.numbers.proofs.Subsets.{subset-even, subset-odd, subset-none, sum-scale, sum-bits}
 use Rattle.numbers.proofs.Parity.{dot-below, dot-none, dot-step}
-use Rattle.numbers.proofs.Turns.{≈-of, ≈-add, ≈-refl, ≈-scale, ≈-mul, _≈∙_}
+use Rattle.numbers.proofs.Turns.{≈-of, ≈-add, ≈-refl, ≈-mul, _≈∙_}
 use Rattle.verdict.specs.Working.{weightOf}
 
 pub ones-even : (t : ℕ) → ones (t * 2) ≡ ones t

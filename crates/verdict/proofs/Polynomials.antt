@@ -1,6 +1,6 @@
 -- A run's phase at x is the wrapped sum of the coefficients over the subsets of x.
 use Prim.Native.Nat.{ℕ, zero, suc, _+_, _-_, _*_, _/_, _%_, _^_, _<_}
-use native.Mathlib.Nat.{mul-comm, mul-assoc, mul-zero}
+use native.Mathlib.Nat.{mul-assoc}
 use native.Mathlib.Omega.{arith}
 use mathlib.Core.Path.{_≡_, refl, sym, ap, _∙_}
 use mathlib.Core.List.{List}

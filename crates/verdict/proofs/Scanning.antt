@@ -1,14 +1,14 @@
 -- The lowest place where coefficients or single-wire ends differ is the lowest start at which the sides part.
 use Prim.Native.Nat.{ℕ, zero, suc, _+_, _-_, _*_, _^_, _<_, _≤_}
-use native.Mathlib.Nat.{one-mul, zero-mul, add-assoc, add-zero, add-comm}
+use native.Mathlib.Nat.{one-mul, zero-mul, add-zero, add-comm}
 use native.Mathlib.Decide.{ℕ-discrete, decLt}
 use native.Mathlib.Omega.{arith}
-use mathlib.Core.Path.{_≡_, refl, sym, ap, ap₂, subst, _∙_}
+use mathlib.Core.Path.{_≡_, sym, ap, ap₂, subst, _∙_}
 use mathlib.Core.Logic.{_⊎_, inl, inr}
 use lib.Bits.{bitXor}
 use lib.Pow.{pow-lt, pow-mono}
 use Rattle.numbers.specs.Bits.{bit, subset}
-use Rattle.numbers.specs.Sums.{sum, sumOf}
+use Rattle.numbers.specs.Sums.{sum}
 use Rattle.numbers.specs.Turn.{_≈_}
 use Rattle.numbers.proofs.Sums.{ℕ-adds, sumOf-ext, sumOf-split}
 use Rattle.numbers.proofs.Subsets.{subset-self, subset-above, sum-zero}

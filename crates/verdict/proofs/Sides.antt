@@ -1,7 +1,7 @@
 -- A circuit and the ideal, each with its coefficients: what the scan goes by.
 use Prim.Native.Nat.{ℕ, zero, suc, _*_, _%_, _^_, _<_}
 use native.Mathlib.Omega.{arith}
-use mathlib.Core.Path.{_≡_, refl}
+use mathlib.Core.Path.{refl}
 use mathlib.Core.List.{List}
 use Rattle.numbers.specs.Bits.{bit}
 use Rattle.table.specs.Table.{valueAt}

@@ -1,7 +1,6 @@
 -- What the steps of a summary come to: the paper's coefficients, and the ends of single-wire starts.
-use Prim.Native.Nat.{ℕ, _+_, _*_, _%_, _^_, _<_, _≤_}
+use Prim.Native.Nat.{ℕ, _+_, _*_, _^_, _<_, _≤_}
 use native.Mathlib.Nat.{zero-add}
-use native.Mathlib.Decide.{decLt}
 use native.Mathlib.Omega.{arith}
 use mathlib.Core.Path.{_≡_, refl, sym, ap, ap₂, _∙_}
 use mathlib.Core.Bool.{true}
@@ -10,11 +9,11 @@ use lib.Count.{ones}
 use lib.ListN.{length}
 use lib.Pow.{pow-mono}
 use Rattle.numbers.specs.Bits.{equal, subset}
-use Rattle.numbers.specs.Sums.{sum, list}
+use Rattle.numbers.specs.Sums.{list}
 use Rattle.numbers.specs.Turn.{_≈_}
 use Rattle.numbers.proofs.Lists.{length-list, getD-list, list-ext}
 use Rattle.numbers.proofs.Angles.{≈-sum}
-use Rattle.numbers.proofs.Turns.{≈-of, ≈-mod, ≈-mul, ≈-refl, ≈-add, _≈∙_}
+use Rattle.numbers.proofs.Turns.{≈-of, ≈-mod, ≈-mul, ≈-refl, _≈∙_}
 use Rattle.refusal.specs.Checks.{passed, outcome}
 use Rattle.circuit.specs.declared.Gate.{Gate}
 use Rattle.circuit.specs.declared.Met.{Met}
@@ -73,6 +72,10 @@ module _ (w : ℕ) (gs : List Gate) (sound : AllSound w gs) (few : w ≤ 10) whe
   weighed-coefficient s h =
       ≈-mul (≈-refl {a = weightOf (ones s)}) (gathered-at s h) .turned ∙ sym (coefficient-weight w gs s)
 
+-- a row of a good file's size
+pub size-fits : (f : List ℕ) → outcome (fileChecks 0 f) ≡ passed → 2 ^ wiresOf f ≤ 1024
+size-fits f passes = pow-mono {i = wiresOf f} {j = 10} (good-file 0 f passes .few)
+
 module _ (f : List ℕ) (bytes : Bytes f) (passes : outcome (fileChecks 0 f) ≡ passed) where
   good : GoodFile f
   good = good-file 0 f passes
@@ -80,21 +83,18 @@ module _ (f : List ℕ) (bytes : Bytes f) (passes : outcome (fileChecks 0 f) ≡
   sound : AllSound (wiresOf f) (gatesOf f)
   sound = file-sound f bytes good
 
-  pub size-fits : 2 ^ wiresOf f ≤ 1024
-  size-fits = pow-mono {i = wiresOf f} {j = 10} (good .few)
-
   -- the row after each step
-  module _ (row clear tal gat wei masks masks′ : List ℕ) (l : length row ≡ 2 ^ wiresOf f) (e0 : clear ≡ list (length row) (λ s. 0)) (m0 : masks ≡ powers 10)
+  module _ (row clear tal gat wei masks : List ℕ) (l : length row ≡ 2 ^ wiresOf f) (e0 : clear ≡ list (length row) (λ s. 0)) (m0 : masks ≡ powers 10)
       (e1 : tal ≡ tallied (gatesOf f) masks clear) where
     is-tally : tal ≡ tally (wiresOf f) (gatesOf f) sound (good .few)
     unfolding tally none
     is-tally = e1 ∙ ap₂ (tallied (gatesOf f)) (m0 ∙ powers-own 10 (omega arith)) (e0 ∙ ap (λ (n : ℕ). list n (λ s. 0)) l)
 
-    pub tally-long : length tal ≡ 2 ^ wiresOf f
+    tally-long : length tal ≡ 2 ^ wiresOf f
     tally-long = ap length e1 ∙ length-tallied (gatesOf f) masks clear ∙ ap length e0 ∙ length-list (length row) (λ s. 0) ∙ l
 
     module _ (e2 : (n : ℕ) → length tal ≡ 2 ^ n → gat ≡ gathered true n tal) where
-      pub gather-long : length gat ≡ 2 ^ wiresOf f
+      gather-long : length gat ≡ 2 ^ wiresOf f
       gather-long = ap length (e2 (wiresOf f) tally-long) ∙ length-gathered true (wiresOf f) tal
 
       pub are-coefficients : wei ≡ list (length gat) (weighed gat) → wei ≡ list (2 ^ wiresOf f) (coefficient (wiresOf f) (gatesOf f))

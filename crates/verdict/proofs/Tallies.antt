@@ -4,10 +4,10 @@ use native.Mathlib.Nat.{add-zero, add-assoc, zero-mul, one-mul}
 use native.Mathlib.Numerals.{add-one}
 use native.Mathlib.Decide.{ℕ-discrete}
 use native.Mathlib.Omega.{arith}
-use mathlib.Core.Path.{_≡_, refl, sym, ap, ap₂, subst, _∙_}
+use mathlib.Core.Path.{_≡_, refl, sym, ap, ap₂, _∙_}
 use mathlib.Core.List.{List, [], _∷_}
 use lib.ListN.{length, getD, set, drop, length-set}
-use lib.Seq.{getD-set-same, getD-set-other, set-out}
+use lib.Seq.{getD-set-same, getD-set-other}
 use Rattle.numbers.specs.Bits.{equal}
 use Rattle.numbers.specs.Turn.{_≈_}
 use Rattle.numbers.proofs.Parity.{equal-yes, equal-no}

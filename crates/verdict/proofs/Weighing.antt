@@ -1,5 +1,5 @@
 -- The table of weights, and a sum weighed by it.
-use Prim.Native.Nat.{ℕ, suc, _*_, _%_, _^_, _<_, _≤_}
+use Prim.Native.Nat.{ℕ, _*_, _%_, _^_, _<_}
 use native.Mathlib.Nat.{lt-of-le-of-lt, mul-le-mul-left, mul-lt-mul-of-pos-right, le-of-lt}
 use native.Mathlib.Omega.{arith}
 use mathlib.Core.Path.{_≡_, ap, _∙_}
@@ -20,6 +20,9 @@ module _ (ws : List ℕ) (k : ℕ) (e : ws ≡ list 11 (λ j. weightOf j % 65536
 
   pub weight-small : getD ws k 0 < 65536
   weight-small = omega (arith, weight-at)
+
+  pub weight-fits : getD ws k 0 < 2 ^ 32
+  weight-fits = omega (arith, weight-small)
 
   pub weighs : (sum : ℕ) → getD ws k 0 * sum % 65536 ≡ weightOf k * sum % 65536
   weighs sum = ap (λ (n : ℕ). n * sum % 65536) weight-at ∙ ≈-scale sum (≈-mod (weightOf k)) .turned

@@ -12,7 +12,7 @@ use Rattle.verdict.specs.declared.Verdict.the-variants.{Same, Different}
 use Rattle.verdict.specs.declared.Compared.{Compared}
 use Rattle.verdict.specs.declared.Compared.the-variants.{Found, Refused}
 use Rattle.verdict.specs.Coefficients.{coefficient, idealCoefficient, differences}
-use Rattle.verdict.specs.Verdicts.{Side, circuit, ideal, verdict}
+use Rattle.verdict.specs.Verdicts.{circuit, ideal, verdict}
 
 -- 0 for Same; 1 for Different, with the state, both ends and the phase
 abbrev pub verdictValues : Verdict → List ℕ

@@ -15,17 +15,23 @@ enum-known-wires c = search needs
 
 compare-with-requires : tie.Need-compare-with-requires
 compare-with-requires c κs =
-    let a = c .before .before .before .before .before .before .before .before .args in
-    let got = c .before .before .before .before in
-    let v = c .before .before .wires .given in
+    let after-wires = c .before .before in
+    let after-read = after-wires .before .before in
+    let start = after-read .before .before .before .before in
+    let a = start .args in
+    let got = after-read in
+    let v = after-wires .wires .given in
     let r = read-answers 0 (a .first .now) (got .read .result) (got .read .ensures) (v .0 .0) (v .0 .1 .0) (v .1) in
     (r .passes, r .wires, r .count)
 
 returns : tie.Need-returns
 returns c =
-    let a = c .before .before .before .before .before .before .before .args in
-    let got = c .before .before .before in
-    let v = c .before .refusal .given in
+    let after-refusal = c .before in
+    let after-read = after-refusal .before .before in
+    let start = after-read .before .before .before .before in
+    let a = start .args in
+    let got = after-read in
+    let v = after-refusal .refusal .given in
     compare-first (a .first .now) (a .second .now) (a .work .now) (v .0 .0) (read-refuses 0 (a .first .now) (got .read .result) (got .read .ensures) (v .0 .0) (v .1))
 
 same-length : tie.Need-same-length

@@ -1,4 +1,4 @@
-use Prim.Native.Nat.{_^_, _≤_}
+use Prim.Native.Nat.{_^_}
 use mathlib.Core.Path.{_≡_, sym, ap, _∙_}
 use lib.Seq.{length-take-le}
 use Rattle.circuit.specs.File.{wiresOf}
@@ -10,13 +10,21 @@ use Rattle.verdict.proofs.comparer.compare_with.Statement.{statement}
 use Rattle.verdict.proofs.comparer.compare_with.Tie as tie
 
 read : (c : tie.After-width) → Answered 1 (c .before .before .before .before .before .before .args .second .now) (c .width .given .0 .0) (c .width .given .0 .1 .0)
-read c = let v = c .width .given in read-answers 1 (c .before .before .before .before .before .before .args .second .now) (c .before .before .read .result) (c .before .before .read .ensures) (v .0 .0) (v .0 .1 .0) (v .1)
+read c =
+    let after-read = c .before .before in
+    let start = after-read .before .before .before .before in
+    let v = c .width .given in read-answers 1 (start .args .second .now) (after-read .read .result) (after-read .read .ensures) (v .0 .0) (v .0 .1 .0) (v .1)
 
 like : (c : tie.Else1) → wiresOf (c .before .before .before .before .before .before .before .before .args .first .now) ≡ wiresOf (c .before .before .before .before .before .before .before .before .args .second .now)
-like c = sym (c .before .before .before .before .before .before .before .before .pre .1) ∙ c .if1 .left ∙ read (c .before .before) .wires
+like c =
+    let after-width = c .before .before in
+    let start = after-width .before .before .before .before .before .before in
+    sym (start .pre .1) ∙ c .if1 .left ∙ read (after-width) .wires
 
 size : (c : tie.After-power) → c .power .result ≡ 2 ^ wiresOf (c .before .before .before .before .before .before .before .before .before .args .first .now)
-size c = let s = c .before .before .before .before .before .before .before .before .before in work-size (s .args .wires) (c .power .result) (omega (arith, s .pre .1, good-file 0 (s .args .first .now) (s .pre .0) .few)) (c .power .ensures) ∙ ap (2 ^_) (s .pre .1)
+size c =
+    let start = c .before .before .before .before .before .before .before .before .before in
+    let s = start in work-size (s .args .wires) (c .power .result) (omega (arith, s .pre .1, good-file 0 (s .args .first .now) (s .pre .0) .few)) (c .power .ensures) ∙ ap (2 ^_) (s .pre .1)
 
 read-requires : tie.Need-read-requires
 read-requires c κs = search needs
@@ -32,10 +40,12 @@ by-requires c κs = search needs
 
 returns : tie.Need-returns
 returns c =
-    let s = c .before .before .before .before .before .before .before .before .before in
-    let a = s .args in
-    let r = read (c .before .before .before) in
-    compare-unlike (a .first .now) (a .second .now) (a .work .now) (s .pre .0) (r .passes) (λ e. c .before .if1 .taken (s .pre .1 ∙ e ∙ sym (r .wires))) (c .by .result) (c .by .ensures)
+    let then1 = c .before in
+    let after-width = then1 .before .before in
+    let start = after-width .before .before .before .before .before .before in
+    let a = start .args in
+    let r = read (after-width) in
+    compare-unlike (a .first .now) (a .second .now) (a .work .now) (start .pre .0) (r .passes) (λ e. then1 .if1 .taken (start .pre .1 ∙ e ∙ sym (r .wires))) (c .by .result) (c .by .ensures)
 
 power-requires : tie.Need-power-requires
 power-requires c κs = search needs
@@ -45,42 +55,57 @@ by-requires-2 c κs = search needs
 
 returns-2 : tie.Need-returns-2
 returns-2 c =
-    let s = c .before .before .before .before .before .before .before .before .before .before .before in
-    let a = s .args in
-    let r = read (c .before .before .before .before .before) in
-    compare-room (a .first .now) (a .second .now) (a .work .now) (s .pre .0) (r .passes) (like (c .before .before .before)) (omega (arith, size (c .before .before))) (c .by2 .result) (c .by2 .ensures)
+    let after-power = c .before .before in
+    let else1 = after-power .before in
+    let after-width = else1 .before .before in
+    let start = after-width .before .before .before .before .before .before in
+    let a = start .args in
+    let r = read (after-width) in
+    compare-room (a .first .now) (a .second .now) (a .work .now) (start .pre .0) (r .passes) (like (else1)) (omega (arith, size (after-power))) (c .by2 .result) (c .by2 .ensures)
 
 slice-relend-prefix-decide : tie.Need-slice-relend-prefix-decide
 slice-relend-prefix-decide c = search needs
 
 slice-aggregate-decide : tie.Need-slice-aggregate-decide
-slice-aggregate-decide c = sym (length-take-le (c .before .before .power .result) (c .before .before .before .before .before .before .before .before .before .before .before .args .work .now) (omega arith))
+slice-aggregate-decide c =
+    let after-power = c .before .before in
+    let start = after-power .before .before .before .before .before .before .before .before .before in
+    sym (length-take-le (after-power .power .result) (start .args .work .now) (omega arith))
 
 decide-requires : tie.Need-decide-requires
 decide-requires c κs =
-    let s = c .before .before .before .before .before .before .before .before .before .before .before in
-    let a = s .args in
-    let r = read (c .before .before .before .before .before) in
-    ((s .pre .0, s .pre .2), ((file-passes 0 (a .second .now) (r .file), r .count), (s .pre .1, s .pre .1 ∙ like (c .before .before .before), length-take-le (c .before .before .power .result) (a .work .now) (omega arith) ∙ size (c .before .before) ∙ ap (2 ^_) (sym (s .pre .1)))))
+    let after-power = c .before .before in
+    let else1 = after-power .before in
+    let after-width = else1 .before .before in
+    let start = after-width .before .before .before .before .before .before in
+    let a = start .args in
+    let r = read (after-width) in
+    ((start .pre .0, start .pre .2), ((file-passes 0 (a .second .now) (r .file), r .count), (start .pre .1, start .pre .1 ∙ like (else1), length-take-le (after-power .power .result) (a .work .now) (omega arith) ∙ size (after-power) ∙ ap (2 ^_) (sym (start .pre .1)))))
 
 returns-3 : tie.Need-returns-3
 returns-3 c =
-    let s = c .before .before .before .before .before .before .before in
-    let a = s .args in
-    let got = c .before .before .before in
-    let v = c .before .refusal .given in
-    compare-second (a .first .now) (a .second .now) (a .work .now) (s .pre .0) (v .0 .0) (read-refuses 1 (a .second .now) (got .read .result) (got .read .ensures) (v .0 .0) (v .1))
+    let after-refusal = c .before in
+    let after-read = after-refusal .before .before in
+    let start = after-read .before .before .before .before in
+    let a = start .args in
+    let got = after-read in
+    let v = after-refusal .refusal .given in
+    compare-second (a .first .now) (a .second .now) (a .work .now) (start .pre .0) (v .0 .0) (read-refuses 1 (a .second .now) (got .read .result) (got .read .ensures) (v .0 .0) (v .1))
 
 same-length : tie.Need-same-length
 same-length c = search needs
 
 returns-4 : tie.Need-returns-4
 returns-4 c =
-    let s = c .before .before .before .before .before .before .before .before .before .before .before .before .before .before in
-    let a = s .args in
-    let r = read (c .before .before .before .before .before .before .before .before) in
-    let d = c .before .before .decide in
-    compare-found (a .first .now) (a .second .now) (a .work .now) (s .pre .0) (r .passes) (like (c .before .before .before .before .before .before)) (a .wires) (c .before .before .before .before .before .power .result) (s .pre .1) (size (c .before .before .before .before .before)) (omega arith) (d .result) (d .last .1 .1 .1 .1 .1 .0) (d .ensures)
+    let after-decide = c .before .before in
+    let after-power = after-decide .before .before .before in
+    let else1 = after-power .before in
+    let after-width = else1 .before .before in
+    let start = after-width .before .before .before .before .before .before in
+    let a = start .args in
+    let r = read (after-width) in
+    let d = after-decide .decide in
+    compare-found (a .first .now) (a .second .now) (a .work .now) (start .pre .0) (r .passes) (like (else1)) (a .wires) (after-power .power .result) (start .pre .1) (size (after-power)) (omega arith) (d .result) (d .last .1 .1 .1 .1 .1 .0) (d .ensures)
 
 pub compare-with-spec : {M : Type 1} → statement M
 compare-with-spec =

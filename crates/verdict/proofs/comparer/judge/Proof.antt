@@ -1,7 +1,5 @@
-use Prim.Native.Nat.{ℕ}
 use Rattle.table.specs.Table.{tableChecks, checkedSays}
 use Rattle.table.proofs.Tables.{table-refused, table-passed}
-use Rattle.table.specs.declared.Checked.{Checked}
 use mathlib.Core.Path.{_≡_, subst}
 use mathlib.Core.List.{[]}
 use Rattle.refusal.specs.Checks.{outcome, passed}
@@ -13,7 +11,10 @@ use Rattle.verdict.proofs.comparer.judge.Statement.{statement}
 use Rattle.verdict.proofs.comparer.judge.Tie as tie
 
 good : (c : tie.After-enum-told) → outcome (tableChecks (c .before .before .before .before .before .before .args .n) (c .before .before .before .before .before .before .args .table .now)) ≡ passed
-good c = let a = c .before .before .before .before .before .before .args in table-passed (a .n) (a .table .now) (subst (Says checkedSays (outcome (tableChecks (a .n) (a .table .now))) []) (c .enum-told .given .1) (c .before .before .check .ensures))
+good c =
+    let after-check = c .before .before in
+    let start = after-check .before .before .before .before in
+    let a = start .args in table-passed (a .n) (a .table .now) (subst (Says checkedSays (outcome (tableChecks (a .n) (a .table .now))) []) (c .enum-told .given .1) (after-check .check .ensures))
 
 check-requires : tie.Need-check-requires
 check-requires c κs = search needs
@@ -23,9 +24,12 @@ enum-known-refusal c = search needs
 
 returns : tie.Need-returns
 returns c =
-    let a = c .before .before .before .before .before .before .before .args in
-    let k = c .before .before .before .check in
-    let v = c .before .refusal .given in
+    let after-refusal = c .before in
+    let after-check = after-refusal .before .before in
+    let start = after-check .before .before .before .before in
+    let a = start .args in
+    let k = after-check .check in
+    let v = after-refusal .refusal .given in
     judge-table (a .n) (a .table .now) (a .file .now) (a .work .now) (v .0 .0) (table-refused (a .n) (a .table .now) (v .0 .0) (subst (Says checkedSays (outcome (tableChecks (a .n) (a .table .now))) []) (v .1) (k .ensures)))
 
 enum-told : tie.Need-enum-told
@@ -42,18 +46,26 @@ enum-known-wires c = search needs
 
 judge-circuit-requires : tie.Need-judge-circuit-requires
 judge-circuit-requires c κs =
-    let a = c .before .before .before .before .before .before .before .before .before .before .before .args in
-    let got = c .before .before .before .before in
-    let v = c .before .before .wires .given in
+    let after-wires = c .before .before in
+    let after-read = after-wires .before .before in
+    let after-enum-told = after-read .before in
+    let start = after-enum-told .before .before .before .before .before .before in
+    let a = start .args in
+    let got = after-read in
+    let v = after-wires .wires .given in
     let r = read-answers 0 (a .file .now) (got .read .result) (got .read .ensures) (v .0 .0) (v .0 .1 .0) (v .1) in
-    (good (c .before .before .before .before .before), (r .passes, r .wires, r .count))
+    (good (after-enum-told), (r .passes, r .wires, r .count))
 
 returns-2 : tie.Need-returns-2
 returns-2 c =
-    let a = c .before .before .before .before .before .before .before .before .before .before .args in
-    let got = c .before .before .before in
-    let v = c .before .refusal2 .given in
-    judge-file (a .n) (a .table .now) (a .file .now) (a .work .now) (good (c .before .before .before .before)) (v .0 .0) (read-refuses 0 (a .file .now) (got .read .result) (got .read .ensures) (v .0 .0) (v .1))
+    let after-refusal2 = c .before in
+    let after-read = after-refusal2 .before .before in
+    let after-enum-told = after-read .before in
+    let start = after-enum-told .before .before .before .before .before .before in
+    let a = start .args in
+    let got = after-read in
+    let v = after-refusal2 .refusal2 .given in
+    judge-file (a .n) (a .table .now) (a .file .now) (a .work .now) (good (after-enum-told)) (v .0 .0) (read-refuses 0 (a .file .now) (got .read .result) (got .read .ensures) (v .0 .0) (v .1))
 
 same-length : tie.Need-same-length
 same-length c = search needs

@@ -1,4 +1,4 @@
-use Prim.Native.Nat.{_+_, _^_, _≤_}
+use Prim.Native.Nat.{_+_, _^_}
 use mathlib.Core.Path.{_≡_, sym, ap, _∙_}
 use lib.Seq.{length-take-le}
 use Rattle.table.proofs.Tables.{good-variables}
@@ -14,7 +14,9 @@ like : (c : tie.Else1) → wiresOf (c .before .before .before .before .args .fil
 like c = sym (c .before .before .before .before .pre .1 .1) ∙ c .if1 .left
 
 size : (c : tie.After-power) → c .power .result ≡ 2 ^ wiresOf (c .before .before .before .before .before .args .file .now)
-size c = let s = c .before .before .before .before .before in work-size (s .args .wires) (c .power .result) (omega (arith, s .pre .1 .1, good-file 0 (s .args .file .now) (s .pre .1 .0) .few)) (c .power .ensures) ∙ ap (2 ^_) (s .pre .1 .1)
+size c =
+    let start = c .before .before .before .before .before in
+    let s = start in work-size (s .args .wires) (c .power .result) (omega (arith, s .pre .1 .1, good-file 0 (s .args .file .now) (s .pre .1 .0) .few)) (c .power .ensures) ∙ ap (2 ^_) (s .pre .1 .1)
 
 add-if1 : tie.Need-add-if1
 add-if1 c = omega (arith, good-variables (c .before .before .before .args .n) (c .before .before .before .args .table .now) (c .before .before .before .pre .0) .1)
@@ -24,9 +26,10 @@ by-requires c κs = search needs
 
 returns : tie.Need-returns
 returns c =
-    let s = c .before .before .before .before .before in
-    let a = s .args in
-    judge-unlike (a .n) (a .table .now) (a .file .now) (a .work .now) (s .pre .0) (s .pre .1 .0) (λ e. c .before .if1 .taken (s .pre .1 .1 ∙ e)) (c .by .result) (c .by .ensures)
+    let then1 = c .before in
+    let start = then1 .before .before .before .before in
+    let a = start .args in
+    judge-unlike (a .n) (a .table .now) (a .file .now) (a .work .now) (start .pre .0) (start .pre .1 .0) (λ e. then1 .if1 .taken (start .pre .1 .1 ∙ e)) (c .by .result) (c .by .ensures)
 
 power-requires : tie.Need-power-requires
 power-requires c κs = search needs
@@ -36,31 +39,41 @@ by-requires-2 c κs = search needs
 
 returns-2 : tie.Need-returns-2
 returns-2 c =
-    let s = c .before .before .before .before .before .before .before in
-    let a = s .args in
-    judge-room (a .n) (a .table .now) (a .file .now) (a .work .now) (s .pre .0) (s .pre .1 .0) (like (c .before .before .before)) (omega (arith, size (c .before .before))) (c .by2 .result) (c .by2 .ensures)
+    let after-power = c .before .before in
+    let else1 = after-power .before in
+    let start = else1 .before .before .before .before in
+    let a = start .args in
+    judge-room (a .n) (a .table .now) (a .file .now) (a .work .now) (start .pre .0) (start .pre .1 .0) (like (else1)) (omega (arith, size (after-power))) (c .by2 .result) (c .by2 .ensures)
 
 slice-relend-prefix-decide-table : tie.Need-slice-relend-prefix-decide-table
 slice-relend-prefix-decide-table c = search needs
 
 slice-aggregate-decide-table : tie.Need-slice-aggregate-decide-table
-slice-aggregate-decide-table c = sym (length-take-le (c .before .before .power .result) (c .before .before .before .before .before .before .before .args .work .now) (omega arith))
+slice-aggregate-decide-table c =
+    let after-power = c .before .before in
+    let start = after-power .before .before .before .before .before in
+    sym (length-take-le (after-power .power .result) (start .args .work .now) (omega arith))
 
 decide-table-requires : tie.Need-decide-table-requires
 decide-table-requires c κs =
-    let s = c .before .before .before .before .before .before .before in
-    let a = s .args in
-    ((s .pre .1 .0, s .pre .1 .2), (s .pre .1 .1, c .before .before .before .if1 .left, length-take-le (c .before .before .power .result) (a .work .now) (omega arith) ∙ size (c .before .before) ∙ ap (2 ^_) (sym (s .pre .1 .1))))
+    let after-power = c .before .before in
+    let else1 = after-power .before in
+    let start = else1 .before .before .before .before in
+    let a = start .args in
+    ((start .pre .1 .0, start .pre .1 .2), (start .pre .1 .1, else1 .if1 .left, length-take-le (after-power .power .result) (a .work .now) (omega arith) ∙ size (after-power) ∙ ap (2 ^_) (sym (start .pre .1 .1))))
 
 same-length : tie.Need-same-length
 same-length c = search needs
 
 returns-3 : tie.Need-returns-3
 returns-3 c =
-    let s = c .before .before .before .before .before .before .before .before .before .before in
-    let a = s .args in
-    let d = c .before .before .decide-table in
-    judge-found (a .n) (a .table .now) (a .file .now) (a .work .now) (s .pre .0) (s .pre .1 .0) (like (c .before .before .before .before .before .before)) (a .wires) (c .before .before .before .before .before .power .result) (s .pre .1 .1) (size (c .before .before .before .before .before)) (omega arith) (d .result) (d .last .1 .1 .1 .1 .1 .0) (d .ensures)
+    let after-decide-table = c .before .before in
+    let after-power = after-decide-table .before .before .before in
+    let else1 = after-power .before in
+    let start = else1 .before .before .before .before in
+    let a = start .args in
+    let d = after-decide-table .decide-table in
+    judge-found (a .n) (a .table .now) (a .file .now) (a .work .now) (start .pre .0) (start .pre .1 .0) (like (else1)) (a .wires) (after-power .power .result) (start .pre .1 .1) (size (after-power)) (omega arith) (d .result) (d .last .1 .1 .1 .1 .1 .0) (d .ensures)
 
 pub judge-circuit-spec : {M : Type 1} → statement M
 judge-circuit-spec =

@@ -3,7 +3,7 @@ use lib.ListN.{length}
 use lib.Seq.{length-take-le}
 use Rattle.verdict.proofs.Gathering.{one-entry, first-falls, row-long, second-falls, joined-long, mix-gives}
 use native.Mathlib.Omega.{arith}
-use Prim.Native.Nat.{ℕ, _<_}
+use Prim.Native.Nat.{ℕ, _/_, _<_}
 use borrow.Fn.Kinds.{In}
 use borrow.Fn.PlainCycle.{Measures, is, falls, and}
 use Rattle.verdict.proofs.gather.gather.Reads as gather
@@ -44,7 +44,7 @@ gather-gather-requires : (t : ℕ) → gather-lts.Need-gather-requires (
   mix-reads.Asked,
   mix-reads.Learnt,
 ) (gather-at t) gather.Post
-gather-gather-requires t c κs = (omega (arith, first-falls (c .before .before .before .args .up) (c .before .before .before .args .v .now) _ refl (c .before .if1 .taken)), tt)
+gather-gather-requires t c κs = (omega (arith, first-falls (c .before .before .before .args .up) (c .before .before .before .args .v .now) (length (c .before .before .before .args .v .now) / 2) refl (omega arith)), tt)
 
 gather-mul-gather : (t : ℕ) → gather-lts.Need-mul-gather (
   gather-below t,
@@ -60,7 +60,10 @@ gather-sub-gather : (t : ℕ) → gather-lts.Need-sub-gather (
   mix-reads.Asked,
   mix-reads.Learnt,
 ) (gather-at t) gather.Post
-gather-sub-gather t c = omega (arith, row-long (c .before .before .before .before .before .before .args .up) (c .before .before .before .before .before .before .args .v .now) _ refl (c .before .before .before .before .if1 .taken) (c .before .before .gather .last .0) (c .before .before .gather .kept .0))
+gather-sub-gather t c =
+    let after-gather = c .before .before in
+    let start = after-gather .before .before .before .before in
+    omega (arith, row-long (start .args .up) (start .args .v .now) (length (start .args .v .now) / 2) refl (omega arith) (after-gather .gather .last .0) (after-gather .gather .kept .0))
 
 gather-part-gather-start : (t : ℕ) → gather-lts.Need-part-gather-start (
   gather-below t,
@@ -68,7 +71,10 @@ gather-part-gather-start : (t : ℕ) → gather-lts.Need-part-gather-start (
   mix-reads.Asked,
   mix-reads.Learnt,
 ) (gather-at t) gather.Post
-gather-part-gather-start t c = omega (arith, row-long (c .before .before .before .before .before .before .args .up) (c .before .before .before .before .before .before .args .v .now) _ refl (c .before .before .before .before .if1 .taken) (c .before .before .gather .last .0) (c .before .before .gather .kept .0))
+gather-part-gather-start t c =
+    let after-gather = c .before .before in
+    let start = after-gather .before .before .before .before in
+    omega (arith, row-long (start .args .up) (start .args .v .now) (length (start .args .v .now) / 2) refl (omega arith) (after-gather .gather .last .0) (after-gather .gather .kept .0))
 
 gather-part-gather-end : (t : ℕ) → gather-lts.Need-part-gather-end (
   gather-below t,
@@ -84,7 +90,10 @@ gather-gather-requires-2 : (t : ℕ) → gather-lts.Need-gather-requires-2 (
   mix-reads.Asked,
   mix-reads.Learnt,
 ) (gather-at t) gather.Post
-gather-gather-requires-2 t c κs = (omega (arith, second-falls (c .before .before .before .before .before .before .before .args .up) (c .before .before .before .before .before .before .before .args .v .now) _ refl (c .before .before .before .before .before .if1 .taken) (c .before .before .before .gather .last .0) (c .before .before .before .gather .kept .0)), tt)
+gather-gather-requires-2 t c κs =
+    let after-gather = c .before .before .before in
+    let start = after-gather .before .before .before .before in
+    (omega (arith, second-falls (start .args .up) (start .args .v .now) (length (start .args .v .now) / 2) refl (omega arith) (after-gather .gather .last .0) (after-gather .gather .kept .0)), tt)
 
 gather-mix-requires : (t : ℕ) → gather-lts.Need-mix-requires (
   gather-below t,
@@ -93,9 +102,12 @@ gather-mix-requires : (t : ℕ) → gather-lts.Need-mix-requires (
   mix-reads.Learnt,
 ) (gather-at t) gather.Post
 gather-mix-requires t c κs =
-    let f = c .before .before .before .before .before .before .before .gather in
-    let g = c .before .before .before .gather2 in
-    omega (arith, joined-long (c .before .before .before .before .before .before .before .before .before .before .before .args .up) (c .before .before .before .before .before .before .before .before .before .before .before .args .v .now) _ refl (c .before .before .before .before .before .before .before .before .before .if1 .taken) (f .last .0) (f .kept .0) (g .last .0) (g .kept .0))
+    let after-gather2 = c .before .before .before in
+    let after-gather = after-gather2 .before .before .before .before in
+    let start = after-gather .before .before .before .before in
+    let f = after-gather .gather in
+    let g = after-gather2 .gather2 in
+    omega (arith, joined-long (start .args .up) (start .args .v .now) (length (start .args .v .now) / 2) refl (omega arith) (f .last .0) (f .kept .0) (g .last .0) (g .kept .0))
 
 gather-same-length : (t : ℕ) → gather-lts.Need-same-length (
   gather-below t,
@@ -104,9 +116,13 @@ gather-same-length : (t : ℕ) → gather-lts.Need-same-length (
   mix-reads.Learnt,
 ) (gather-at t) gather.Post
 gather-same-length t c =
-    let f = c .before .before .before .before .before .before .before .before .before .before .gather in
-    let g = c .before .before .before .before .before .before .gather2 in
-    c .before .before .mix .kept .0 ∙ joined-long (c .before .before .before .before .before .before .before .before .before .before .before .before .before .before .args .up) (c .before .before .before .before .before .before .before .before .before .before .before .before .before .before .args .v .now) _ refl (c .before .before .before .before .before .before .before .before .before .before .before .before .if1 .taken) (f .last .0) (f .kept .0) (g .last .0) (g .kept .0)
+    let after-mix = c .before .before in
+    let after-gather2 = after-mix .before .before .before .before in
+    let after-gather = after-gather2 .before .before .before .before in
+    let start = after-gather .before .before .before .before in
+    let f = after-gather .gather in
+    let g = after-gather2 .gather2 in
+    after-mix .mix .kept .0 ∙ joined-long (start .args .up) (start .args .v .now) (length (start .args .v .now) / 2) refl (omega arith) (f .last .0) (f .kept .0) (g .last .0) (g .kept .0)
 
 gather-returns : (t : ℕ) → gather-lts.Need-returns (
   gather-below t,
@@ -115,10 +131,14 @@ gather-returns : (t : ℕ) → gather-lts.Need-returns (
   mix-reads.Learnt,
 ) (gather-at t) gather.Post
 gather-returns t c =
-    let f = c .before .before .before .before .before .before .before .before .before .before .gather in
-    let g = c .before .before .before .before .before .before .gather2 in
-    let m = c .before .before .mix in
-    mix-gives (c .before .before .before .before .before .before .before .before .before .before .before .before .before .before .args .up) (c .before .before .before .before .before .before .before .before .before .before .before .before .before .before .args .v .now) _ refl (c .before .before .before .before .before .before .before .before .before .before .before .before .if1 .taken) (f .last .0) (f .kept .0) (g .last .0) (g .kept .0) (f .ensures) (g .ensures) (m .last .0) (m .ensures)
+    let after-mix = c .before .before in
+    let after-gather2 = after-mix .before .before .before .before in
+    let after-gather = after-gather2 .before .before .before .before in
+    let start = after-gather .before .before .before .before in
+    let f = after-gather .gather in
+    let g = after-gather2 .gather2 in
+    let m = after-mix .mix in
+    mix-gives (start .args .up) (start .args .v .now) (length (start .args .v .now) / 2) refl (omega arith) (f .last .0) (f .kept .0) (g .last .0) (g .kept .0) (f .ensures) (g .ensures) (m .last .0) (m .ensures)
 
 gather-returns-2 : (t : ℕ) → gather-lts.Need-returns-2 (
   gather-below t,

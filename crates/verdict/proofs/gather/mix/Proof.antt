@@ -19,18 +19,24 @@ same-length c = search needs
 
 returns : tie.Need-returns
 returns c =
-    let a = c .before .before .before .before .before .before .args in
-    let r = c .before .before .add-rows in
-    λ e. mixed-up (a .half) (a .v .now) (r .last .0) e (r .ensures) ∙ ap (λ (b : Bool). mixed b (a .half) (a .v .now)) (sym (c .before .before .before .before .if1 .taken))
+    let after-add-rows = c .before .before in
+    let then1 = after-add-rows .before .before in
+    let start = then1 .before .before in
+    let a = start .args in
+    let r = after-add-rows .add-rows in
+    λ e. mixed-up (a .half) (a .v .now) (r .last .0) e (r .ensures) ∙ ap (λ (b : Bool). mixed b (a .half) (a .v .now)) (sym (then1 .if1 .taken))
 
 same-length-2 : tie.Need-same-length-2
 same-length-2 c = search needs
 
 returns-2 : tie.Need-returns-2
 returns-2 c =
-    let a = c .before .before .before .before .before .before .args in
-    let r = c .before .before .add-rows2 in
-    λ e. mixed-down (a .half) (a .v .now) (r .last .0) e (r .ensures) ∙ ap (λ (b : Bool). mixed b (a .half) (a .v .now)) (sym (c .before .before .before .before .if1 .left))
+    let after-add-rows2 = c .before .before in
+    let else1 = after-add-rows2 .before .before in
+    let start = else1 .before .before in
+    let a = start .args in
+    let r = after-add-rows2 .add-rows2 in
+    λ e. mixed-down (a .half) (a .v .now) (r .last .0) e (r .ensures) ∙ ap (λ (b : Bool). mixed b (a .half) (a .v .now)) (sym (else1 .if1 .left))
 
 pub mix-spec : {M : Type 1} → statement M
 mix-spec =

@@ -27,9 +27,12 @@ same-length c = search needs
 
 returns : tie.Need-returns
 returns c =
-    let a = c .before .before .before .before .before .before .before .before .before .before .args in
-    let t = c .before .before .before .before .before .before .put-turns in
-    let g = c .before .before .gather in
+    let after-gather = c .before .before in
+    let after-put-turns = after-gather .before .before .before .before in
+    let start = after-put-turns .before .before .before .before in
+    let a = start .args in
+    let t = after-put-turns .put-turns in
+    let g = after-gather .gather in
     turns-ideal (a .table .now) (a .v .now) (t .last .1 .0) (g .last .0) _ refl (t .ensures) (g .ensures)
 
 pub ideal-spec : {M : Type 1} → statement M

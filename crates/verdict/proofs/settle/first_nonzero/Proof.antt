@@ -1,7 +1,7 @@
 use Prim.Native.Nat.{ℕ, _-_, _<_, _≤_}
 use mathlib.Core.Path.{_≡_, refl}
 use lib.ListN.{length}
-use borrow.Author.Count.{below-more, below-none}
+use borrow.Author.Count.{below-more}
 use Rattle.verdict.specs.Working.{entry}
 use native.Mathlib.Omega.{arith}
 use Rattle.verdict.proofs.settle.first_nonzero.Statement.{statement}

@@ -18,17 +18,21 @@ shl-single c = omega (arith, c .first-unlike .ensures .within)
 
 returns : tie.Need-returns
 returns c =
-    let s = c .before .before .before .before .before .before in
-    let f = c .before .before .first-nonzero in
-    let g = c .before .first-unlike in
-    place-first (λ k. entry (s .args .differences .now) k ≡ 0) (λ i. entry (s .args .firsts .now) i ≡ entry (s .args .seconds .now) i) (length (s .args .differences .now)) (length (s .args .firsts .now)) (f .result) (g .result) _ (f .ensures) (g .ensures) (s .pre .1) refl (c .if1 .taken)
+    let after-first-unlike = c .before in
+    let after-first-nonzero = after-first-unlike .before in
+    let start = after-first-nonzero .before .before .before .before in
+    let f = after-first-nonzero .first-nonzero in
+    let g = after-first-unlike .first-unlike in
+    place-first (λ k. entry (start .args .differences .now) k ≡ 0) (λ i. entry (start .args .firsts .now) i ≡ entry (start .args .seconds .now) i) (length (start .args .differences .now)) (length (start .args .firsts .now)) (f .result) (g .result) _ (f .ensures) (g .ensures) (start .pre .1) refl (c .if1 .taken)
 
 returns-2 : tie.Need-returns-2
 returns-2 c =
-    let s = c .before .before .before .before .before .before in
-    let f = c .before .before .first-nonzero in
-    let g = c .before .first-unlike in
-    wire-first (λ k. entry (s .args .differences .now) k ≡ 0) (λ i. entry (s .args .firsts .now) i ≡ entry (s .args .seconds .now) i) (length (s .args .differences .now)) (length (s .args .firsts .now)) (f .result) (g .result) _ (f .ensures) (g .ensures) (s .pre .1) refl (c .if1 .left)
+    let after-first-unlike = c .before in
+    let after-first-nonzero = after-first-unlike .before in
+    let start = after-first-nonzero .before .before .before .before in
+    let f = after-first-nonzero .first-nonzero in
+    let g = after-first-unlike .first-unlike in
+    wire-first (λ k. entry (start .args .differences .now) k ≡ 0) (λ i. entry (start .args .firsts .now) i ≡ entry (start .args .seconds .now) i) (length (start .args .differences .now)) (length (start .args .firsts .now)) (f .result) (g .result) _ (f .ensures) (g .ensures) (start .pre .1) refl (c .if1 .left)
 
 pub lowest-place-spec : {M : Type 1} → statement M
 lowest-place-spec =

@@ -32,10 +32,14 @@ same-length-3 c = search needs
 
 returns-2 : tie.Need-returns-2
 returns-2 c =
-    let w = c .before .before .before .before .before .before .before .before .before in
-    let a = c .before .before .before .before .before .before .before .before .before .before .before .before .before .args in
-    let m = c .before .before .before .before .before .mask .given in
-    let p = c .before .before .add-at in
+    let after-add-at = c .before .before in
+    let after-mask = after-add-at .before .before .before in
+    let after-walk = after-mask .before .before .before .before in
+    let start = after-walk .before .before .before .before in
+    let w = after-walk in
+    let a = start .args in
+    let m = after-mask .mask .given in
+    let p = after-add-at .add-at in
     mask-adds (a .gate) (a .masks .now) (w .walk .last .0) (w .walk .result) (m .0 .0) (m .0 .1 .0) (a .v .now) (p .last .0) (w .walk .ensures) (m .1) (p .ensures)
 
 pub add-gate-spec : {M : Type 1} → statement M

@@ -34,9 +34,12 @@ same-length-2 c = c .before .before .before .before .loop .inv .1 .long
 
 returns : tie.Need-returns Inv-loop μ-loop
 returns c =
-    let s = c .before .before .before .before .before .before .before .before in
-    let g = c .before .before in
-    never-bad (s .args .file .now) (λ j. c .before .before .before .before .before .before .before .shared-slice-known .given j .fits) (s .pre .0) (c .before .before .before .before .loop .i) (omega arith) (sym (g .gate-at .ensures) ∙ c .enum-told .given .1)
+    let after-gate-at = c .before .before in
+    let at-loop = after-gate-at .before .before in
+    let after-shared-slice-known = at-loop .before .before .before in
+    let start = after-shared-slice-known .before in
+    let g = after-gate-at in
+    never-bad (start .args .file .now) (λ j. after-shared-slice-known .shared-slice-known .given j .fits) (start .pre .0) (at-loop .loop .i) (omega arith) (sym (g .gate-at .ensures) ∙ c .enum-told .given .1)
 
 add-gate-requires : tie.Need-add-gate-requires Inv-loop μ-loop
 add-gate-requires c κs = search needs
@@ -49,13 +52,18 @@ loop-less c = omega arith
 
 loop-again : tie.Need-loop-again Inv-loop μ-loop
 loop-again c =
-    let s = c .before .before .before .before .before .before .before .before .before .before .before .before .before .before .before .before in
-    let a = s .args in
-    let l = c .before .before .before .before .before .before .before .before .before .before .before .before .loop in
-    let g = c .before .before .before .before .before .before .before .before .before .before in
-    let q = c .before .before .before .before .before .before .before .before .placed .given in
-    let d = c .before .before .before .before .add-gate in
-    (omega arith, tally-goes-on (a .file .now) (λ j. c .before .before .before .before .before .before .before .before .before .before .before .before .before .before .before .shared-slice-known .given j .fits) (s .pre .0) (l .i) (a .masks .now) (a .v .now) (l .masks) (l .v) (d .last .1 .0) (d .last .1 .1 .0) (q .0 .0) (omega arith) (sym (g .gate-at .ensures) ∙ q .1) (d .kept .1 .0) (d .ensures .0) (d .ensures .1) (l .inv .1))
+    let after-add-gate = c .before .before .before .before in
+    let after-placed = after-add-gate .before .before .before .before in
+    let after-gate-at = after-placed .before .before in
+    let at-loop = after-gate-at .before .before in
+    let after-shared-slice-known = at-loop .before .before .before in
+    let start = after-shared-slice-known .before in
+    let a = start .args in
+    let l = at-loop .loop in
+    let g = after-gate-at in
+    let q = after-placed .placed .given in
+    let d = after-add-gate .add-gate in
+    (omega arith, tally-goes-on (a .file .now) (λ j. after-shared-slice-known .shared-slice-known .given j .fits) (start .pre .0) (l .i) (a .masks .now) (a .v .now) (l .masks) (l .v) (d .last .1 .0) (d .last .1 .1 .0) (q .0 .0) (omega arith) (sym (g .gate-at .ensures) ∙ q .1) (d .kept .1 .0) (d .ensures .0) (d .ensures .1) (l .inv .1))
 
 same-length-3 : tie.Need-same-length-3 Inv-loop μ-loop
 same-length-3 c = c .before .loop .inv .1 .wires
@@ -65,10 +73,12 @@ same-length-4 c = c .before .loop .inv .1 .long
 
 returns-2 : tie.Need-returns-2 Inv-loop μ-loop
 returns-2 c =
-    let s = c .before .before .before .before .before in
-    let a = s .args in
-    let l = c .before .loop in
-    tally-ends (a .file .now) (λ j. c .before .before .before .before .shared-slice-known .given j .fits) (s .pre .0) (l .i) (a .masks .now) (a .v .now) (l .masks) (l .v) (omega arith) (l .inv .1)
+    let at-loop = c .before in
+    let after-shared-slice-known = at-loop .before .before .before in
+    let start = after-shared-slice-known .before in
+    let a = start .args in
+    let l = at-loop .loop in
+    tally-ends (a .file .now) (λ j. after-shared-slice-known .shared-slice-known .given j .fits) (start .pre .0) (l .i) (a .masks .now) (a .v .now) (l .masks) (l .v) (omega arith) (l .inv .1)
 
 pub tally-spec : {M : Type 1} → statement M
 tally-spec =

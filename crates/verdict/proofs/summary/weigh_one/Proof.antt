@@ -1,6 +1,6 @@
 use mathlib.Core.Path.{refl}
 use lib.Count.{ones}
-use Rattle.verdict.proofs.Weighing.{few-ones, weight-small, weighs, product-fits}
+use Rattle.verdict.proofs.Weighing.{few-ones, weight-fits, weight-small, weighs, product-fits}
 use native.Mathlib.Omega.{arith}
 use borrow.Author.Needs.{needs}
 use Rattle.verdict.proofs.summary.weigh_one.Statement.{statement}
@@ -16,7 +16,7 @@ array-read-weight : tie.Need-array-read-weight
 array-read-weight c = few-ones (c .args .set) (c .pre)
 
 cast-result : tie.Need-cast-result
-cast-result c = omega (arith, weight-small _ (ones (c .args .set)) refl (few-ones (c .args .set) (c .pre)))
+cast-result c = record { fits = weight-fits _ (ones (c .args .set)) refl (few-ones (c .args .set) (c .pre)) }
 
 mul-result : tie.Need-mul-result
 mul-result c = record { fits = product-fits _ (c .args .sum) (weight-small _ (ones (c .args .set)) refl (few-ones (c .args .set) (c .pre))) (c .fits .sum .fits) }
