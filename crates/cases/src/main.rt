@@ -6,6 +6,7 @@ mod digest;
 mod fold_case;
 mod lent;
 mod line;
+mod listing_case;
 mod read_case;
 mod request;
 mod run_case;
@@ -99,6 +100,7 @@ fn put(line: &mut Line, r: Request, first: &[u8], second: &[u8]) -> usize {
         b'F' => fold_case::serve(line, r, first),
         b'P' => verdict_case::serve_compare(line, r, first, second),
         b'J' => verdict_case::serve_judge(line, r, first, second),
+        b'L' => listing_case::serve(line, r, first),
         _ => 0,
     }
 }

@@ -1,0 +1,50 @@
+-- The operation's three ways out, and that it has one answer and one slice.
+use Prim.Native.Nat.{ℕ, _<_, _≤_}
+use native.Mathlib.Nat.{zero-add}
+use mathlib.Core.Path.{_≡_, refl, ap, _∙_}
+use mathlib.Core.Bool.{Bool}
+use mathlib.Core.List.{List, [], _∷_, _++_}
+use lib.ListN.{length, drop}
+use Rattle.refusal.specs.declared.Refusal.{Refusal}
+use Rattle.refusal.specs.Names.{refusal, ROOM}
+use Rattle.refusal.specs.Checks.{passed, refused, outcome}
+use Rattle.refusal.specs.Contract.{values, Meets}
+use Rattle.refusal.proofs.Contracts.{Distinct, same-refusal, one-answer}
+use Rattle.refusal.proofs.Rooms.{earlier-refused, room-refused, room-enough}
+use Rattle.circuit.specs.Gates.{putAt}
+use Rattle.circuit.specs.File.{fileChecks}
+use Rattle.circuit.proofs.Writing.{put-fits}
+use Rattle.listing.specs.declared.Listed.{Listed}
+use Rattle.listing.specs.declared.Listed.the-variants.{Length, Refused}
+use Rattle.listing.specs.Listing.{listingOfFile, listChecks, listedSays}
+
+-- the contract of `list`
+abbrev pub Lists : Bool → List ℕ → List ℕ → Listed → List ℕ → Type 0
+Lists b f before answer after = Meets listedSays (outcome (listChecks b f (length before))) (length (listingOfFile b f) ∷ []) (listingOfFile b f) before answer after
+
+module _ (b : Bool) (f before : List ℕ) where
+  abbrev text : List ℕ
+  text = listingOfFile b f
+
+  pub file-fails : (r : Refusal) → outcome (fileChecks 0 f) ≡ refused r → Lists b f before (Refused r) before
+  file-fails r e = earlier-refused listedSays (fileChecks 0 f) (length text) (length text ∷ []) text before (Refused r) r refl e
+
+  module _ (e : outcome (fileChecks 0 f) ≡ passed) (l : ℕ) (p : l ≡ length text) where
+    pub room-fails : length before < l → (r : Refusal) → r ≡ refusal ROOM → Lists b f before (Refused r) before
+    room-fails h r q = room-refused listedSays (fileChecks 0 f) (length text) (length text ∷ []) text before e (rw p at h) (Refused r) r refl q
+
+    pub answered : l ≤ length before → (after : List ℕ) → after ≡ putAt text 0 before → Lists b f before (Length l) after
+    answered h after q =
+        let k : length text ≤ length before = rw p at h in
+        room-enough listedSays (fileChecks 0 f) (length text) (length text ∷ []) text before e k (Length l) after (ap (λ (n : ℕ). values (n ∷ [])) p)
+        (q ∙ put-fits text 0 before (rw (zero-add (length text)) k) ∙ ap (λ (n : ℕ). text ++ drop n before) (zero-add (length text)))
+
+pub listed-distinct : Distinct listedSays
+listed-distinct (Length l) (Length m) e = cc
+listed-distinct (Length l) (Refused r) e = cc
+listed-distinct (Refused r) (Length m) e = cc
+listed-distinct (Refused r) (Refused s) e = ap Refused (same-refusal r s e)
+
+-- no second answer meets the contract, and no second slice
+pub one-listing : (b : Bool) (f before : List ℕ) (a c : Listed) (x y : List ℕ) → Lists b f before a x → Lists b f before c y → (a ≡ c) × (x ≡ y)
+one-listing b f before = one-answer listedSays (outcome (listChecks b f (length before))) (length (listingOfFile b f) ∷ []) (listingOfFile b f) before listed-distinct

@@ -1,0 +1,6 @@
+pub mod Decimals
+pub mod Fractions
+mod Writing
+pub mod Pieces
+mod GateLoops
+pub mod Answers

@@ -1,0 +1,90 @@
+-- A text written piece by piece: what is left of it.
+use Prim.Native.Nat.{ℕ, suc, _+_, _/_, _%_, _<_, _≤_}
+use native.Mathlib.Nat.{add-zero}
+use native.Mathlib.Numerals.{add-one}
+use native.Mathlib.Omega.{arith}
+use mathlib.Core.Path.{_≡_, refl, sym, ap, ap₂, subst, _∙_}
+use mathlib.Core.List.{List, [], _∷_, _++_}
+use lib.ListN.{length, getD, drop, set, length-append, length-drop, drop-of-length-le}
+use lib.Seq.{drop-cons}
+use Rattle.circuit.specs.Gates.{putAt}
+use Rattle.circuit.proofs.Writing.{put-put, put-sets, length-put}
+use Rattle.listing.specs.Text.{digit, decimal, Wrote}
+use Rattle.listing.proofs.Decimals.{decimal-small, decimal-more, one-digit}
+
+-- `rest` is left of a text that goes to `start`, and it goes to `at`
+pub record Left (text : List ℕ) (start : ℕ) (before rest : List ℕ) (at : ℕ) (now : List ℕ) : Type 0 where
+  pub long : length now ≡ length before
+  pub fits : at + length rest ≤ length now
+  pub ends : at + length rest ≡ start + length text
+  pub done : putAt rest at now ≡ putAt text start before
+
+pub all-left : (text : List ℕ) (at : ℕ) (out : List ℕ) → at + length text ≤ length out → Left text at out text at out
+all-left text at out h = record { long = refl; fits = h; ends = refl; done = refl }
+
+module _ {text : List ℕ} {start : ℕ} {before : List ℕ} {at : ℕ} {now : List ℕ} (t rest : List ℕ) (l : Left text start before (t ++ rest) at now) where
+  pub room : at + length t ≤ length now
+  room = omega (arith, l .fits, length-append t rest)
+
+  pub less-left : {behind : ℕ} {after : List ℕ} → Wrote t at now behind after → Left text start before rest behind after
+  less-left {behind} {after} w =
+      let k = length-append t rest in
+      let same : length after ≡ length now = ap length (w .written) ∙ length-put t at now room in
+      record {
+        long = same ∙ l .long;
+        fits = omega (arith, l .fits, w .ends);
+        ends = omega (arith, l .ends, w .ends);
+        done = ap₂ (λ (n : ℕ) (o : List ℕ). putAt rest n o) (w .ends) (w .written) ∙ put-put t rest at now (l .fits) ∙ l .done;
+      }
+
+module _ {text : List ℕ} {start : ℕ} {before : List ℕ} {at : ℕ} {now : List ℕ} where
+  pub all-written : {t : List ℕ} {behind : ℕ} {after : List ℕ} → Left text start before t at now → Wrote t at now behind after → Wrote text start before behind after
+  all-written l w = record { ends = w .ends ∙ l .ends; written = w .written ∙ l .done }
+
+  pub none-left : {rest : List ℕ} → rest ≡ [] → Left text start before rest at now → Wrote text start before at now
+  none-left e l =
+      let m : Left text start before [] at now = subst (λ (r : List ℕ). Left text start before r at now) e l in
+      record { ends = sym (add-zero at) ∙ m .ends; written = sym (put-sets [] at now (m .fits)) ∙ m .done }
+
+-- nothing is written
+pub wrote-nothing : (at : ℕ) (out : List ℕ) → at ≤ length out → Wrote [] at out at out
+wrote-nothing at out h = record { ends = sym (add-zero at); written = sym (put-sets [] at out (omega arith)) }
+
+-- one byte
+pub wrote-one : (b at : ℕ) (out : List ℕ) → at < length out → Wrote (b ∷ []) at out (at + 1) (set out at b)
+wrote-one b at out h = record { ends = refl; written = sym (put-sets (b ∷ []) at out (omega arith)) }
+
+-- a word, byte by byte
+pub word-starts : (text : List ℕ) (at : ℕ) (out : List ℕ) → at + length text ≤ length out → Left text at out (drop 0 text) (at + 0) out
+word-starts text at out h = rw (add-zero at) (all-left text at out h)
+
+module _ (text : List ℕ) (start : ℕ) (before : List ℕ) (i : ℕ) (now : List ℕ) (l : Left text start before (drop i text) (start + i) now) where
+  pub byte-room : i < length text → start + i < length now
+  byte-room h = omega (arith, l .fits, length-drop i text)
+
+  pub byte-written : i < length text → Left text start before (drop (i + 1) text) (start + (i + 1)) (set now (start + i) (getD text i 0))
+  byte-written h =
+      let m : Left text start before ((getD text i 0 ∷ []) ++ drop (suc i) text) (start + i) now = subst (λ (r : List ℕ). Left text start before r (start + i) now) (drop-cons text i 0 h) l in
+      let e : start + i + 1 ≡ start + (i + 1) = omega arith in
+      rw (← e, add-one i)
+      (less-left (getD text i 0 ∷ []) (drop (suc i) text) m (wrote-one (getD text i 0) (start + i) now (byte-room h)))
+
+  pub word-written : length text ≤ i → Wrote text start before (start + i) now
+  word-written h = none-left (drop-of-length-le text {i = i} h) l
+
+-- a number of one digit, and a number as that without its last digit, and the last
+module _ (n at : ℕ) (out : List ℕ) (fits : at + length (decimal n) ≤ length out) where
+  pub digit-room : n < 10 → at + 1 ≤ length out
+  digit-room h = omega (arith, one-digit n h)
+
+  pub digit-written : n < 10 → {behind : ℕ} {after : List ℕ} → Wrote (digit n) at out behind after → Wrote (decimal n) at out behind after
+  digit-written h w = rw (decimal-small n h) w
+
+  pub digits-left : 10 ≤ n → Left (decimal n) at out (decimal (n / 10) ++ digit (n % 10)) at out
+  digits-left h = subst (λ (r : List ℕ). Left (decimal n) at out r at out) (decimal-more n h) (all-left (decimal n) at out fits)
+
+  pub first-room : 10 ≤ n → at + length (decimal (n / 10)) ≤ length out
+  first-room h = room (decimal (n / 10)) (digit (n % 10)) (digits-left h)
+
+  pub last-left : 10 ≤ n → {behind : ℕ} {after : List ℕ} → Wrote (decimal (n / 10)) at out behind after → Left (decimal n) at out (digit (n % 10)) behind after
+  last-left h w = less-left (decimal (n / 10)) (digit (n % 10)) (digits-left h) w

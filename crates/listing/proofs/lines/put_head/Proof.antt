@@ -1,0 +1,85 @@
+use mathlib.Core.List.{_++_}
+use Rattle.listing.specs.Text.{numbered}
+use Rattle.listing.proofs.Writing.{Left, room, less-left, all-written}
+use Rattle.listing.specs.Listing.{versionLine, includeLine, closing, headLines}
+use Rattle.listing.proofs.Pieces.{head-left}
+use borrow.Author.Needs.{needs}
+use Rattle.listing.proofs.lines.put_head.Statement.{statement}
+use Rattle.listing.proofs.lines.put_head.Tie as tie
+use Rattle.listing.proofs.lines.put_head.Reads as reads
+use Rattle.listing.proofs.lines.put_head.Lts as lts
+use Rattle.listing.proofs.text.put_numbered.Reads as put-numbered-reads
+use Rattle.listing.proofs.text.put_text.Reads as put-text-reads
+
+abbrev s1 : tie.After-put-text → tie.Start
+s1 c = c .before .before .before .before
+
+left1 : (c : tie.After-put-text) → Left (headLines (s1 c .args .wires)) (s1 c .args .at) (s1 c .args .out .now) (includeLine ++ (numbered "qreg q[" (s1 c .args .wires) ++ (closing))) (c .put-text .result) (c .put-text .last .1 .0)
+left1 c = let a = s1 c .args in less-left (versionLine) (includeLine ++ (numbered "qreg q[" (a .wires) ++ (closing))) (head-left (a .wires) (a .at) (a .out .now) (s1 c .pre)) (c .put-text .ensures)
+
+abbrev s2 : tie.After-put-text2 → tie.Start
+s2 c = c .before .before .before .before .before .before .before .before .before
+
+left2 : (c : tie.After-put-text2) → Left (headLines (s2 c .args .wires)) (s2 c .args .at) (s2 c .args .out .now) (numbered "qreg q[" (s2 c .args .wires) ++ (closing)) (c .put-text2 .result) (c .put-text2 .last .1 .0)
+left2 c = let a = s2 c .args in less-left (includeLine) (numbered "qreg q[" (a .wires) ++ (closing)) (left1 (c .before .before .before .before .before)) (c .put-text2 .ensures)
+
+abbrev s3 : tie.After-put-numbered → tie.Start
+s3 c = c .before .before .before .before .before .before .before .before .before .before .before .before .before .before
+
+left3 : (c : tie.After-put-numbered) → Left (headLines (s3 c .args .wires)) (s3 c .args .at) (s3 c .args .out .now) (closing) (c .put-numbered .result) (c .put-numbered .last .1 .1 .0)
+left3 c = let a = s3 c .args in less-left (numbered "qreg q[" (a .wires)) (closing) (left2 (c .before .before .before .before .before)) (c .put-numbered .ensures)
+
+-- src/lines.rt:60:23
+slice-aggregate-put-text : tie.Need-slice-aggregate-put-text
+slice-aggregate-put-text c = search needs
+
+-- src/lines.rt:60:9
+put-text-requires : tie.Need-put-text-requires
+put-text-requires c κs = let s = c .before .before .before in let a = s .args in room (versionLine) (includeLine ++ (numbered "qreg q[" (a .wires) ++ (closing))) (head-left (a .wires) (a .at) (a .out .now) (s .pre))
+
+-- src/lines.rt:61:23
+slice-aggregate-put-text-2 : tie.Need-slice-aggregate-put-text-2
+slice-aggregate-put-text-2 c = search needs
+
+-- src/lines.rt:61:9
+put-text-requires-2 : tie.Need-put-text-requires-2
+put-text-requires-2 c κs = let p = c .before .before .before .before in let a = s1 p .args in room (includeLine) (numbered "qreg q[" (a .wires) ++ (closing)) (left1 p)
+
+-- src/lines.rt:62:27
+slice-aggregate-put-numbered : tie.Need-slice-aggregate-put-numbered
+slice-aggregate-put-numbered c = search needs
+
+-- src/lines.rt:62:9
+put-numbered-requires : tie.Need-put-numbered-requires
+put-numbered-requires c κs = let p = c .before .before .before .before in let a = s2 p .args in room (numbered "qreg q[" (a .wires)) (closing) (left2 p)
+
+-- src/lines.rt:63:14
+slice-aggregate-put-text-3 : tie.Need-slice-aggregate-put-text-3
+slice-aggregate-put-text-3 c = search needs
+
+-- src/lines.rt:63:5
+put-text-requires-3 : tie.Need-put-text-requires-3
+put-text-requires-3 c κs = left3 (c .before .before .before .before) .fits
+
+-- src/lines.rt:56:1
+same-length : tie.Need-same-length
+same-length c = search needs
+
+-- src/lines.rt:56:1
+returns : tie.Need-returns
+returns c = let p = c .before .before in all-written (left3 (p .before .before .before .before .before)) (p .put-text3 .ensures)
+
+pub put-head-spec : {M : Type 1} → statement M
+put-head-spec =
+    tie.close
+    (tie.spec
+    slice-aggregate-put-text
+    put-text-requires
+    slice-aggregate-put-text-2
+    put-text-requires-2
+    slice-aggregate-put-numbered
+    put-numbered-requires
+    slice-aggregate-put-text-3
+    put-text-requires-3
+    same-length
+    returns)

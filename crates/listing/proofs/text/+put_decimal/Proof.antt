@@ -1,0 +1,114 @@
+use native.Mathlib.Omega.{arith}
+use mathlib.Core.Path.{_∙_}
+use Rattle.listing.specs.Text.{digit, decimal}
+use Rattle.listing.proofs.Writing.{Left, room, all-written, digit-room, digit-written, first-room, last-left}
+use Prim.Native.Nat.{ℕ, _<_}
+use borrow.Fn.Kinds.{In}
+use borrow.Fn.PlainCycle.{Measures, is, falls, and}
+use Rattle.listing.proofs.text.put_decimal.Reads as put-decimal
+use Rattle.listing.proofs.text.put_decimal.Kinds as put-decimal-kinds
+use Rattle.listing.proofs.text.+put_decimal.Lts-put_decimal as put-decimal-lts
+use Rattle.listing.proofs.text.put_digit.Reads as put-digit-reads
+use Rattle.listing.proofs.text.+put_decimal.{statement}
+use Rattle.listing.proofs.text.+put_decimal.Tie.{close}
+
+abbrev μ-put-decimal : Measures 1 put-decimal-kinds.ps ℕ
+μ-put-decimal κs a = a .0
+
+abbrev put-decimal-at : ℕ → In 1 put-decimal-kinds.ps
+put-decimal-at t =
+    and 1 put-decimal-kinds.ps (is 1 put-decimal-kinds.ps μ-put-decimal t) put-decimal.Pre
+
+abbrev put-decimal-below : ℕ → In 1 put-decimal-kinds.ps
+put-decimal-below t =
+    and 1 put-decimal-kinds.ps (falls 1 put-decimal-kinds.ps _<_ μ-put-decimal t) put-decimal.Pre
+
+-- src/text.rt:34:9
+put-decimal-put-digit-requires : (t : ℕ) → put-decimal-lts.Need-put-digit-requires (
+  put-digit-reads.Asked,
+  put-digit-reads.Learnt,
+  put-decimal-below t,
+  put-decimal.Post,
+) (put-decimal-at t) put-decimal.Post
+put-decimal-put-digit-requires t c κs = let s = c .before .before .before in
+    (c .before .if1 .taken, digit-room (s .args .n) (s .args .at) (s .args .out .now) (s .pre .1) (c .before .if1 .taken))
+
+-- src/text.rt:34:9
+put-decimal-same-length : (t : ℕ) → put-decimal-lts.Need-same-length (
+  put-digit-reads.Asked,
+  put-digit-reads.Learnt,
+  put-decimal-below t,
+  put-decimal.Post,
+) (put-decimal-at t) put-decimal.Post
+put-decimal-same-length t c = c .before .before .put-digit .kept .1 .0
+
+-- src/text.rt:34:9
+put-decimal-returns : (t : ℕ) → put-decimal-lts.Need-returns (
+  put-digit-reads.Asked,
+  put-digit-reads.Learnt,
+  put-decimal-below t,
+  put-decimal.Post,
+) (put-decimal-at t) put-decimal.Post
+put-decimal-returns t c = let d = c .before .before in
+    let s = d .before .before .before .before in
+    digit-written (s .args .n) (s .args .at) (s .args .out .now) (s .pre .1) (d .before .before .if1 .taken) (d .put-digit .ensures)
+
+-- src/text.rt:36:9
+put-decimal-put-decimal-requires : (t : ℕ) → put-decimal-lts.Need-put-decimal-requires (
+  put-digit-reads.Asked,
+  put-digit-reads.Learnt,
+  put-decimal-below t,
+  put-decimal.Post,
+) (put-decimal-at t) put-decimal.Post
+put-decimal-put-decimal-requires t c κs = let s = c .before .before .before in
+    (omega arith, first-room (s .args .n) (s .args .at) (s .args .out .now) (s .pre .1) (c .before .if1 .left))
+
+-- src/text.rt:37:5
+put-decimal-put-digit-requires-2 : (t : ℕ) → put-decimal-lts.Need-put-digit-requires-2 (
+  put-digit-reads.Asked,
+  put-digit-reads.Learnt,
+  put-decimal-below t,
+  put-decimal.Post,
+) (put-decimal-at t) put-decimal.Post
+put-decimal-put-digit-requires-2 t c κs = let d = c .before .before .before in
+    let s = d .before .before .before .before in
+    (omega arith, last-left (s .args .n) (s .args .at) (s .args .out .now) (s .pre .1) (d .before .before .if1 .left) (d .put-decimal .ensures) .fits)
+
+-- src/text.rt:29:1
+put-decimal-same-length-2 : (t : ℕ) → put-decimal-lts.Need-same-length-2 (
+  put-digit-reads.Asked,
+  put-digit-reads.Learnt,
+  put-decimal-below t,
+  put-decimal.Post,
+) (put-decimal-at t) put-decimal.Post
+put-decimal-same-length-2 t c = let d = c .before .before in
+    d .put-digit2 .kept .1 .0 ∙ d .before .before .before .before .put-decimal .kept .1 .0
+
+-- src/text.rt:29:1
+put-decimal-returns-2 : (t : ℕ) → put-decimal-lts.Need-returns-2 (
+  put-digit-reads.Asked,
+  put-digit-reads.Learnt,
+  put-decimal-below t,
+  put-decimal.Post,
+) (put-decimal-at t) put-decimal.Post
+put-decimal-returns-2 t c = let d = c .before .before in
+    let p = d .before .before .before .before in
+    let s = p .before .before .before .before in
+    all-written (last-left (s .args .n) (s .args .at) (s .args .out .now) (s .pre .1) (p .before .before .if1 .left) (p .put-decimal .ensures)) (d .put-digit2 .ensures)
+
+pub +put-decimal-spec : {M : Type 1} → statement M
++put-decimal-spec = close μ-put-decimal λ t. put-decimal-lts.spec (
+  put-digit-reads.Asked,
+  put-digit-reads.Learnt,
+  put-decimal-below t,
+  put-decimal.Post,
+)
+    (put-decimal-at t)
+    put-decimal.Post
+    (put-decimal-put-digit-requires t)
+    (put-decimal-same-length t)
+    (put-decimal-returns t)
+    (put-decimal-put-decimal-requires t)
+    (put-decimal-put-digit-requires-2 t)
+    (put-decimal-same-length-2 t)
+    (put-decimal-returns-2 t)

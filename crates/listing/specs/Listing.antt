@@ -1,0 +1,74 @@
+-- 01, "Listing": the text of a circuit, line by line, and what the operation answers.
+use Prim.Native.Nat.{ℕ, _-_}
+use mathlib.Core.Bool.{Bool, true, false}
+use mathlib.Core.List.{List, [], _∷_, _++_}
+use lib.ListN.{length}
+use Rattle.refusal.specs.Checks.{Check, roomCheck}
+use Rattle.refusal.specs.Contract.{Said, values, saidOf}
+use Rattle.circuit.specs.declared.Gate.{Gate}
+use Rattle.circuit.specs.declared.Gate.the-variants.{Cnot, Phase}
+use Rattle.circuit.specs.File.{wiresOf, gatesOf, fileChecks}
+use Rattle.listing.specs.declared.lines.Fraction.{Fraction}
+use Rattle.listing.specs.declared.Listed.{Listed}
+use Rattle.listing.specs.declared.Listed.the-variants.{Length, Refused}
+use Rattle.listing.specs.Text.{ascii, numbered}
+use Rattle.listing.specs.Fractions.{fractionOf}
+
+-- "`OPENQASM 2.0;`"
+abbrev pub versionLine : List ℕ
+versionLine = ascii "OPENQASM 2.0;\n"
+
+-- "`include "qelib1.inc";`"
+abbrev pub includeLine : List ℕ
+includeLine = ascii "include \"qelib1.inc\";\n"
+
+-- what ends a line that names a wire; "Lines end in one newline."
+abbrev pub closing : List ℕ
+closing = ascii "];\n"
+
+-- "`qreg q[W];`"
+abbrev pub registerLine : ℕ → List ℕ
+registerLine w = numbered "qreg q[" w ++ closing
+
+-- the three header lines
+unfoldable pub headLines : ℕ → List ℕ
+headLines w = versionLine ++ (includeLine ++ registerLine w)
+
+-- "if wrapped `h q[W-1];`"
+unfoldable pub wrapLine : Bool → ℕ → List ℕ
+wrapLine false w = []
+wrapLine true w = numbered "h q[" (w - 1) ++ closing
+
+-- "CNOT: `cx q[c],q[t];`"
+unfoldable pub cnotLine : ℕ → ℕ → List ℕ
+cnotLine c t = numbered "cx q[" c ++ (numbered "],q[" t ++ closing)
+
+-- "Phase: `u1(K*pi/D) q[i];`"
+unfoldable pub phaseLine : ℕ → Fraction → List ℕ
+phaseLine i f = numbered "u1(" (f .above) ++ (numbered "*pi/" (f .below) ++ (numbered ") q[" i ++ closing))
+
+abbrev pub gateLine : Gate → List ℕ
+gateLine (Cnot c t) = cnotLine c t
+gateLine (Phase i a) = phaseLine i (fractionOf a)
+
+-- "one line a gate"
+unfoldable pub gateLines : List Gate → List ℕ
+gateLines [] = []
+gateLines (g ∷ gs) = gateLine g ++ gateLines gs
+
+-- the header, "if wrapped `h q[W-1];`, one line a gate, if wrapped the h line again"
+unfoldable pub listingOf : Bool → ℕ → List Gate → List ℕ
+listingOf wrapped w gs = headLines w ++ (wrapLine wrapped w ++ (gateLines gs ++ wrapLine wrapped w))
+
+-- the listing of a file
+abbrev pub listingOfFile : Bool → List ℕ → List ℕ
+listingOfFile wrapped f = listingOf wrapped (wiresOf f) (gatesOf f)
+
+-- rows 4 to 10, then 13 "output slice shorter than this call's result"
+abbrev pub listChecks : Bool → List ℕ → ℕ → List Check
+listChecks wrapped f room = fileChecks 0 f ++ roomCheck room (length (listingOfFile wrapped f))
+
+-- the answer is the text's length
+abbrev pub listedSays : Listed → Said
+listedSays (Length l) = values (l ∷ [])
+listedSays (Refused r) = saidOf r

@@ -1,0 +1,40 @@
+-- 01, "Listing": the bytes of fixed words and of numbers, and what a writer of text does.
+use Prim.Native.Nat.{ℕ, zero, suc, _+_, _-_, _*_, _/_, _%_, _≤_}
+use Prim.Native.Char.{code}
+use Prim.Native.String.{String, [] as nothing, _∷_ as _then_}
+use mathlib.Core.Path.{_≡_}
+use mathlib.Core.Bool.{cond}
+use mathlib.Core.List.{List, [], _∷_, _++_}
+use lib.Dec.{ltb}
+use lib.ListN.{length}
+use Rattle.circuit.specs.Gates.{putAt}
+
+-- a fixed word's bytes
+abbrev pub ascii : String → List ℕ
+ascii nothing = []
+ascii (c then s) = code c ∷ ascii s
+
+abbrev pub digit : ℕ → List ℕ
+digit d = (48 + d) ∷ []
+
+-- "Decimal, no leading zeros": the digits of n / 10, if any, then the last; n itself is more than enough digits
+unfoldable pub decimalFrom : ℕ → ℕ → List ℕ
+decimalFrom zero n = digit n
+decimalFrom (suc k) n = cond (ltb n 10) (digit n) (decimalFrom k (n / 10) ++ digit (n % 10))
+
+abbrev pub decimal : ℕ → List ℕ
+decimal n = decimalFrom n n
+
+-- the number that digits say, after those that say v
+unfoldable pub valueAfter : ℕ → List ℕ → ℕ
+valueAfter v [] = v
+valueAfter v (d ∷ ds) = valueAfter (v * 10 + (d - 48)) ds
+
+-- a fixed word, then a number
+abbrev pub numbered : String → ℕ → List ℕ
+numbered s n = ascii s ++ decimal n
+
+-- a text written at a place, and the place behind it
+pub record Wrote (text : List ℕ) (at : ℕ) (before : List ℕ) (behind : ℕ) (after : List ℕ) : Type 0 where
+  pub ends : behind ≡ at + length text
+  pub written : after ≡ putAt text at before

@@ -1,0 +1,29 @@
+-- 01, "Listing": what the listing program prints for the bytes that it reads.
+use Prim.Native.Nat.{ℕ}
+use mathlib.Core.Bool.{true}
+use mathlib.Core.List.{List, _++_}
+use lib.ListN.{length, getD, drop}
+use Rattle.refusal.specs.Checks.{Check, roomCheck}
+use Rattle.table.specs.Table.{tableChecks}
+use Rattle.build.specs.Construction.{builtFile}
+use Rattle.fold.specs.Fold.{foldedFile}
+use Rattle.listing.specs.Listing.{listingOfFile}
+
+-- "reads the byte n and then the table"; of an empty input n is 0, which row 1 refuses
+abbrev pub variablesOf : List ℕ → ℕ
+variablesOf input = getD input 0 0
+
+abbrev pub tableOf : List ℕ → List ℕ
+tableOf input = drop 1 input
+
+-- "the wrapped listing of the folded circuit" of a file
+abbrev pub foldedListing : List ℕ → List ℕ
+foldedListing f = listingOfFile true (foldedFile f)
+
+-- that of the circuit that is built
+abbrev pub oracleText : ℕ → List ℕ → List ℕ
+oracleText n t = foldedListing (builtFile n t)
+
+-- rows 1 to 3, then 13 where out is shorter than the text
+abbrev pub oracleChecks : ℕ → List ℕ → ℕ → List Check
+oracleChecks n t room = tableChecks n t ++ roomCheck room (length (oracleText n t))
