@@ -17,18 +17,18 @@ pub fn serve(line: &mut Line, r: Request, file: &[u8]) -> usize {
 fn case(line: &mut Line, wrapped: bool, file: &[u8], out: &mut [u8]) -> usize {
     lent::fill_u8(out);
     let answer = listing::list(file, wrapped, out);
-    let at = line::word(line, 0, name(wrapped));
+    let at = name(line, wrapped);
     let at = line::bytes(line, at, b" file ", file);
     let at = line::number(line, at, b" room ", out.len() as u64);
     let at = said(line, at, answer);
     lent::words_u8(line, at, out)
 }
 
-fn name(wrapped: bool) -> &'static [u8] {
+fn name(line: &mut Line, wrapped: bool) -> usize {
     if wrapped {
-        b"list wrapped"
+        line::word(line, 0, b"list wrapped")
     } else {
-        b"list plain"
+        line::word(line, 0, b"list plain")
     }
 }
 
