@@ -1,20 +1,21 @@
 -- A listing's lines, piece by piece, and how long they are.
-use Prim.Native.Nat.{ℕ, zero, suc, _+_, _*_, _-_, _<_, _≤_}
-use native.Mathlib.Nat.{zero-add, add-assoc}
+use Prim.Native.Nat.{ℕ, suc, _+_, _*_, _-_, _<_, _≤_}
+use native.Mathlib.Nat.{zero-add}
 use native.Mathlib.Numerals.{add-one}
 use native.Mathlib.Omega.{arith}
-use mathlib.Core.Path.{_≡_, refl, sym, ap, subst, _∙_}
+use mathlib.Core.Path.{_≡_, refl, ap, subst, _∙_}
 use mathlib.Core.Bool.{Bool, true, false}
 use mathlib.Core.List.{List, [], _∷_, _++_}
 use lib.ListN.{length, drop, length-append}
 use Rattle.circuit.specs.declared.Gate.{Gate}
 use Rattle.circuit.specs.declared.Gate.the-variants.{Cnot, Phase}
-use Rattle.circuit.specs.Gates.{Sound}
+use Rattle.circuit.specs.Gates.{Sound, AllSound}
+use Rattle.circuit.proofs.Decoding.{sound-wider}
 use Rattle.circuit.specs.File.{wiresOf, gatesOf}
 use Rattle.listing.specs.declared.lines.Fraction.{Fraction}
 use Rattle.listing.specs.Text.{decimal, numbered, Wrote}
 use Rattle.listing.specs.Fractions.{fractionOf}
-use Rattle.listing.specs.Listing.{versionLine, includeLine, closing, registerLine, headLines, wrapLine, cnotLine, phaseLine, gateLine, gateLines, listingOf, listingOfFile}
+use Rattle.listing.specs.Listing.{versionLine, includeLine, closing, headLines, wrapLine, cnotLine, phaseLine, gateLine, gateLines, listingOf, listingOfFile}
 use Rattle.listing.proofs.Decimals.{one-digit, two-digits, five-digits}
 use Rattle.listing.proofs.Fractions.{in-lowest-terms}
 use Rattle.listing.proofs.Writing.{Left, all-left, less-left}
@@ -127,3 +128,14 @@ unfolding listingOf
 listing-length b f w e frame gates p q =
     let k : length (headLines w ++ (wrapLine b w ++ (gateLines (gatesOf f) ++ wrapLine b w))) ≡ length (listingOfFile b f) = ap (λ (v : ℕ). length (headLines v ++ (wrapLine b v ++ (gateLines (gatesOf f) ++ wrapLine b v)))) e in
     omega (arith, length-append (headLines w) (wrapLine b w ++ (gateLines (gatesOf f) ++ wrapLine b w)), length-append (wrapLine b w) (gateLines (gatesOf f) ++ wrapLine b w), length-append (gateLines (gatesOf f)) (wrapLine b w))
+
+-- how long a listing can be
+pub lines-short : (w : ℕ) → w ≤ 10 → (gs : List Gate) → AllSound w gs → length (gateLines gs) ≤ 32 * length gs
+unfolding AllSound gateLines
+lines-short w h [] s = omega arith
+lines-short w h (g ∷ gs) s = omega (arith, length-append (gateLine g) (gateLines gs), line-short g (sound-wider w 10 g h (s .0)), lines-short w h gs (s .1))
+
+pub listing-short : (b : Bool) (w : ℕ) (gs : List Gate) → w ≤ 10 → AllSound w gs → length (listingOf b w gs) ≤ 64 + 32 * length gs
+unfolding listingOf
+listing-short b w gs h s =
+    omega (arith, length-append (headLines w) (wrapLine b w ++ (gateLines gs ++ wrapLine b w)), length-append (wrapLine b w) (gateLines gs ++ wrapLine b w), length-append (gateLines gs) (wrapLine b w), head-short w h, wrap-short b w h, lines-short w h gs s)

@@ -5,9 +5,8 @@ use circuit::Gate;
 ghost use mathlib.Core.Path.{_≡_};
 ghost use Prim.Native.Nat.{_+_, _≤_, _<_, _^_};
 ghost use lib.ListN.{length};
-ghost use Rattle.circuit.specs.Gates.{Sound};
 ghost use Rattle.listing.specs.Text.{Wrote};
-ghost use Rattle.listing.specs.Fractions.{over, lowest, fractionOf};
+ghost use Rattle.listing.specs.Fractions.{over, fractionOf};
 ghost use Rattle.listing.specs.Listing.{headLines, wrapLine, cnotLine, phaseLine, gateLine};
 
 const VERSION: [u8; 14] = *b"OPENQASM 2.0;\n";
@@ -25,15 +24,18 @@ struct Fraction {
     below: u16,
 }
 
+fn ratio(above: u16, below: u16) -> Fraction
+    ensures { λ r. ⌜ r ≡ over above below ⌝ }
+{
+    Fraction { above, below }
+}
+
 // k over 2^e, where nothing is left to halve.
 fn over_power(k: u16, e: u8) -> Fraction
     requires { ⌜ e < 16 ⌝ }
     ensures { λ r. ⌜ r ≡ over k (2 ^ e) ⌝ }
 {
-    Fraction {
-        above: k,
-        below: numbers::power(e) as u16,
-    }
+    ratio(k, numbers::power(e) as u16)
 }
 
 // An angle over 32,768, both halved while both are even.

@@ -1,11 +1,11 @@
 -- One operation after another: each is lent room enough, so that only its input can be refused.
-use Prim.Native.Nat.{ℕ, _+_, _-_, _*_, _^_, _≤_, _<_}
+use Prim.Native.Nat.{ℕ, _+_, _-_, _*_, _^_, _≤_}
 use native.Mathlib.Omega.{arith}
 use mathlib.Core.Path.{_≡_, refl, sym, ap, subst, _∙_}
 use mathlib.Core.Bool.{true}
 use mathlib.Core.Logic.{inl, inr}
 use mathlib.Core.List.{List, [], _∷_, _++_}
-use lib.ListN.{length, getD, take, drop, length-append, length-drop}
+use lib.ListN.{length, take, drop, length-append, length-drop}
 use lib.Seq.{take-at, take-all}
 use lib.Pow.{pow-mono}
 use Rattle.refusal.specs.declared.Refusal.{Refusal}
@@ -23,7 +23,13 @@ use Rattle.build.specs.declared.Built.{Built}
 use Rattle.build.specs.declared.Built.the-variants.{Length as BuiltLength, Refused as BuiltRefused}
 use Rattle.build.specs.Construction.{builtFile, builtSays}
 use Rattle.build.proofs.Answers.{Builds}
-use Rattle.build.proofs.Oracles.{built-long, built-passes}
+use Rattle.build.proofs.Oracles.{built-long, built-passes, built-gates, built-wires}
+use Rattle.build.proofs.Circuits.{sound-construction}
+use Rattle.build.specs.Construction.{construction}
+use Rattle.table.specs.Table.{valueAt}
+use Rattle.circuit.specs.Gates.{AllSound}
+use Rattle.circuit.proofs.Files.{list-written, wires-written}
+use Rattle.listing.proofs.Pieces.{listing-short}
 use Rattle.fold.specs.declared.Folded.{Folded}
 use Rattle.fold.specs.declared.Folded.the-variants.{File, Refused as FoldRefused}
 use Rattle.fold.specs.Fold.{foldedFile, foldedSays}
@@ -32,6 +38,8 @@ use Rattle.circuit.specs.Run.{score}
 use Rattle.circuit.proofs.Files.{length-file}
 use Rattle.fold.specs.Fold.{folded}
 use Rattle.fold.proofs.Answers.{Folds}
+use Rattle.fold.proofs.Folding.{folded-sound}
+use Rattle.fold.proofs.Folding.{folded-shorter}
 use Rattle.fold.proofs.Files.{few-gates, folded-passes}
 use Rattle.listing.specs.declared.Listed.{Listed}
 use Rattle.listing.specs.declared.Listed.the-variants.{Refused}
@@ -150,3 +158,16 @@ rest-of input = take-all (length input - 1) (drop 1 input) (omega (arith, length
 -- no second answer meets the contract, and no second slice
 pub one-oracle : (n : ℕ) (t before : List ℕ) (a b : Listed) (x y : List ℕ) → ListsOracle n t before a x → ListsOracle n t before b y → (a ≡ b) × (x ≡ y)
 one-oracle n t before = one-answer listedSays (outcome (oracleChecks n t (length before))) (length (oracleText n t) ∷ []) (oracleText n t) before listed-distinct
+
+-- 65,536 bytes are room for every table's text
+pub room-for-text : (n : ℕ) (t : List ℕ) → outcome (tableChecks n t) ≡ passed → length (oracleText n t) ≤ 65536
+room-for-text n t e =
+    let v = good-variables n t e in
+    let f = builtFile n t in
+    let gs = folded (wiresOf f) (gatesOf f) in
+    let g : gatesOf f ≡ construction n (valueAt t) = built-gates n t (v .0) (v .1) in
+    let w : wiresOf f ≡ n + 1 = built-wires n t (v .0) (v .1) in
+    let s : AllSound (wiresOf f) (gatesOf f) = rw (g, w) (sound-construction n (valueAt t)) in
+    let l : length (foldedListing f) ≤ 64 + 32 * length gs = rw (list-written (wiresOf f) gs (folded-sound (wiresOf f) (gatesOf f) s), wires-written (wiresOf f) gs) (listing-short true (wiresOf f) gs (omega (arith, w, v .1)) (folded-sound (wiresOf f) (gatesOf f) s)) in
+    let k = length-file (n + 1) (construction n (valueAt t)) in
+    omega (arith, l, folded-shorter (wiresOf f) (gatesOf f), ap length g, k, built-long n t (v .0), pow-mono {i = n + 4} {j = 12} (omega (arith, v .1)))

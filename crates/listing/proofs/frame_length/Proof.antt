@@ -3,41 +3,30 @@ use Rattle.listing.proofs.Pieces.{head-short, wrap-short}
 use borrow.Author.Needs.{needs}
 use Rattle.listing.proofs.frame_length.Statement.{statement}
 use Rattle.listing.proofs.frame_length.Tie as tie
-use Rattle.listing.proofs.frame_length.Reads as reads
-use Rattle.listing.proofs.frame_length.Lts as lts
-use Rattle.listing.proofs.lines.put_head.Reads as put-head-reads
-use Rattle.listing.proofs.lines.put_wrap.Reads as put-wrap-reads
 
--- src/lib.rt:59:37
 slice-aggregate-put-head : tie.Need-slice-aggregate-put-head
 slice-aggregate-put-head c = search needs
 
--- src/lib.rt:59:9
 put-head-requires : tie.Need-put-head-requires
 put-head-requires c κs = omega (arith, head-short (c .before .args .wires) (omega arith))
 
--- src/lib.rt:60:46
 slice-aggregate-put-wrap : tie.Need-slice-aggregate-put-wrap
 slice-aggregate-put-wrap c = search needs
 
--- src/lib.rt:60:9
 put-wrap-requires : tie.Need-put-wrap-requires
 put-wrap-requires c κs = let head = c .before .before in
     let a = head .before .before .args in
     (omega arith, omega (arith, head .put-head .ensures .ends, head .put-head .kept .1 .0, head-short (a .wires) (omega arith), wrap-short (a .wrapped) (a .wires) (omega arith)))
 
--- src/lib.rt:61:37
 slice-aggregate-put-wrap-2 : tie.Need-slice-aggregate-put-wrap-2
 slice-aggregate-put-wrap-2 c = search needs
 
--- src/lib.rt:61:5
 put-wrap-requires-2 : tie.Need-put-wrap-requires-2
 put-wrap-requires-2 c κs = let wrap = c .before .before in
     let head = wrap .before .before .before in
     let a = head .before .before .args in
     (omega arith, omega (arith, head .put-head .ensures .ends, head .put-head .kept .1 .0, wrap .put-wrap .ensures .ends, wrap .put-wrap .kept .1 .1 .0, head-short (a .wires) (omega arith), wrap-short (a .wrapped) (a .wires) (omega arith)))
 
--- src/lib.rt:54:1
 returns : tie.Need-returns
 returns c = let wrap2 = c .before in
     let wrap = wrap2 .before .before .before in

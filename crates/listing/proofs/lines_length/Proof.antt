@@ -8,10 +8,6 @@ use Rattle.listing.proofs.Pieces.{Measured, measure-starts, measured-mo
 use Rattle.listing.proofs.GateLoops.{next-gate, next-sound, never-bad, at-end}
 use Rattle.listing.proofs.lines_length.Statement.{statement}
 use Rattle.listing.proofs.lines_length.Tie as tie
-use Rattle.listing.proofs.lines_length.Reads as reads
-use Rattle.listing.proofs.lines_length.Lts as lts
-use Rattle.circuit.proofs.gate_at.Reads as gate-at-reads
-use Rattle.listing.proofs.line_length.Reads as line-length-reads
 
 abbrev Inv-loop : tie.InvT-loop
 Inv-loop file gates total₀ i₀ total i = (i ≤ gates) × Measured (gatesOf file) total i
@@ -19,30 +15,24 @@ Inv-loop file gates total₀ i₀ total i = (i ≤ gates) × Measured (gatesOf f
 abbrev μ-loop : tie.MeasureT-loop
 μ-loop file gates total₀ i₀ total i = gates - i
 
--- src/lib.rt:42:5
 loop-holds : tie.Need-loop-holds Inv-loop μ-loop
 loop-holds c = (omega arith, measure-starts (gatesOf (c .before .args .file .now)))
 
--- src/lib.rt:43:37
 gate-at-requires : tie.Need-gate-at-requires Inv-loop μ-loop
 gate-at-requires c κs = search needs
 
--- src/lib.rt:43:27
 enum-known-placed : tie.Need-enum-known-placed Inv-loop μ-loop
 enum-known-placed c = search needs
 
--- src/lib.rt:44:13
 enum-told : tie.Need-enum-told Inv-loop μ-loop
 enum-told c = search needs
 
--- src/lib.rt:44:13
 returns : tie.Need-returns Inv-loop μ-loop
 returns c = let got = c .before .before in
     let at = got .before .before in
     let s = at .before in
     never-bad (s .before .args .file .now) (λ j. s .shared-slice-known .given j .fits) (s .before .pre .0) (at .loop .i) (omega arith) (sym (got .gate-at .ensures) ∙ c .enum-told .given .1)
 
--- src/lib.rt:47:18
 line-length-requires : tie.Need-line-length-requires Inv-loop μ-loop
 line-length-requires c κs = let found = c .before in
     let got = found .before .before in
@@ -50,7 +40,6 @@ line-length-requires c κs = let found = c .before in
     let s = at .before in
     next-sound (s .before .args .file .now) (λ j. s .shared-slice-known .given j .fits) (s .before .pre .0) (at .loop .i) (found .placed .given .0 .0) (omega arith) (sym (got .gate-at .ensures) ∙ found .placed .given .1)
 
--- src/lib.rt:47:9
 add-total : tie.Need-add-total Inv-loop μ-loop
 add-total c = let found = c .before .before in
     let got = found .before .before in
@@ -60,15 +49,12 @@ add-total c = let found = c .before .before in
     let q = found .placed .given .0 .0 in
     omega (arith, c .line-length .ensures, at .loop .inv .1 .short, good-file 0 f (s .before .pre .0) .count, line-short (q .gate) (next-sound f (λ j. s .shared-slice-known .given j .fits) (s .before .pre .0) (at .loop .i) q (omega arith) (sym (got .gate-at .ensures) ∙ found .placed .given .1)))
 
--- src/lib.rt:48:9
 add-i : tie.Need-add-i Inv-loop μ-loop
 add-i c = omega arith
 
--- src/lib.rt:42:5
 loop-less : tie.Need-loop-less Inv-loop μ-loop
 loop-less c = omega arith
 
--- src/lib.rt:42:5
 loop-again : tie.Need-loop-again Inv-loop μ-loop
 loop-again c = let found = c .before .before in
     let got = found .before .before in
@@ -82,7 +68,6 @@ loop-again c = let found = c .before .before in
           (next-sound f (λ j. s .shared-slice-known .given j .fits) (s .before .pre .0) (at .loop .i) q (omega arith) e) (c .line-length .result) (c .line-length .ensures),
     )
 
--- src/lib.rt:36:1
 returns-2 : tie.Need-returns-2 Inv-loop μ-loop
 returns-2 c = let at = c .before in
     let s = at .before in

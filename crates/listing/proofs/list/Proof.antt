@@ -3,24 +3,16 @@ use Rattle.listing.proofs.Answers.{file-fails}
 use borrow.Author.Needs.{needs}
 use Rattle.listing.proofs.list.Statement.{statement}
 use Rattle.listing.proofs.list.Tie as tie
-use Rattle.listing.proofs.list.Reads as reads
-use Rattle.listing.proofs.list.Lts as lts
-use Rattle.circuit.proofs.read.Reads as read-reads
-use Rattle.listing.proofs.list_good.Reads as list-good-reads
 
--- src/lib.rt:112:11
 read-requires : tie.Need-read-requires
 read-requires c κs = search needs
 
--- src/lib.rt:113:26
 enum-known-refusal : tie.Need-enum-known-refusal
 enum-known-refusal c = search needs
 
--- src/lib.rt:114:28
 enum-known-wires : tie.Need-enum-known-wires
 enum-known-wires c = search needs
 
--- src/lib.rt:114:46
 list-good-requires : tie.Need-list-good-requires
 list-good-requires c κs = let found = c .before .before in
     let got = found .before .before in
@@ -28,18 +20,15 @@ list-good-requires c κs = let found = c .before .before in
     let r = read-answers 0 (got .before .before .before .args .file .now) (got .read .result) (got .read .ensures) (v .0 .0) (v .0 .1 .0) (v .1) in
     (r .passes, r .count, r .wires)
 
--- src/lib.rt:109:1
 returns : tie.Need-returns
 returns c = let found = c .before in
     let got = found .before .before in
     let a = got .before .before .before .args in
     file-fails (a .wrapped) (a .file .now) (a .out .now) (found .refusal .given .0 .0) (read-refuses 0 (a .file .now) (got .read .result) (got .read .ensures) (found .refusal .given .0 .0) (found .refusal .given .1))
 
--- src/lib.rt:109:1
 same-length : tie.Need-same-length
 same-length c = search needs
 
--- src/lib.rt:109:1
 returns-2 : tie.Need-returns-2
 returns-2 c = search needs
 

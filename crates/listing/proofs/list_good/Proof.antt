@@ -9,12 +9,6 @@ use Rattle.listing.proofs.Answers.{room-fails, answered}
 use borrow.Author.Needs.{needs}
 use Rattle.listing.proofs.list_good.Statement.{statement}
 use Rattle.listing.proofs.list_good.Tie as tie
-use Rattle.listing.proofs.list_good.Reads as reads
-use Rattle.listing.proofs.list_good.Lts as lts
-use Rattle.listing.proofs.frame_length.Reads as frame-length-reads
-use Rattle.listing.proofs.lines_length.Reads as lines-length-reads
-use Rattle.listing.proofs.write.Reads as write-reads
-use Rattle.refusal.proofs.by.Reads as by-reads
 
 -- the length that room is checked against is the text's
 whole : (c : tie.After-lines-length) → c .before .frame-length .result + c .lines-length .result ≡ length (listingOfFile (c .before .before .before .before .args .wrapped) (c .before .before .before .before .args .file .now))
@@ -23,42 +17,34 @@ whole c =
     let a = s .args in
     listing-length (a .wrapped) (a .file .now) (a .wires) (s .pre .2) (c .before .frame-length .result) (c .lines-length .result) (c .before .frame-length .ensures .0) (c .lines-length .ensures .0)
 
--- src/lib.rt:100:18
 frame-length-requires : tie.Need-frame-length-requires
 frame-length-requires c κs = let s = c .before .before in
     let g = good-file 0 (s .args .file .now) (s .pre .0) in
     (omega (arith, s .pre .2, g .some), omega (arith, s .pre .2, g .few))
 
--- src/lib.rt:100:49
 lines-length-requires : tie.Need-lines-length-requires
 lines-length-requires c κs = search needs
 
--- src/lib.rt:100:18
 add-length : tie.Need-add-length
 add-length c = search needs
 
--- src/lib.rt:102:32
 by-requires : tie.Need-by-requires
 by-requires c κs = search needs
 
--- src/lib.rt:102:9
 returns : tie.Need-returns
 returns c = let l = c .before .before in
     let s = l .before .before .before .before in
     let a = s .args in
     room-fails (a .wrapped) (a .file .now) (a .out .now) (s .pre .0) _ (whole l) (c .before .if1 .taken) (c .by .result) (c .by .ensures)
 
--- src/lib.rt:104:5
 write-requires : tie.Need-write-requires
 write-requires c κs = let l = c .before .before in
     let s = l .before .before .before .before in
     (s .pre, omega (arith, whole l, c .before .if1 .left))
 
--- src/lib.rt:96:1
 same-length : tie.Need-same-length
 same-length c = search needs
 
--- src/lib.rt:96:1
 returns-2 : tie.Need-returns-2
 returns-2 c = let w = c .before .before in
     let l = w .before .before .before in

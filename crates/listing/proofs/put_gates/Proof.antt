@@ -1,6 +1,5 @@
 use borrow.Author.Needs.{needs}
 use Rattle.listing.specs.Listing.{gateLine}
-use lib.ListN.{length}
 use Prim.Native.Nat.{suc}
 use Prim.Native.Nat.{_-_, _≤_}
 use native.Mathlib.Omega.{arith}
@@ -13,10 +12,6 @@ use Rattle.listing.proofs.Pieces.{line-left, line-written, no-lines}
 use Rattle.listing.proofs.GateLoops.{next-gate, never-bad, at-end}
 use Rattle.listing.proofs.put_gates.Statement.{statement}
 use Rattle.listing.proofs.put_gates.Tie as tie
-use Rattle.listing.proofs.put_gates.Reads as reads
-use Rattle.listing.proofs.put_gates.Lts as lts
-use Rattle.circuit.proofs.gate_at.Reads as gate-at-reads
-use Rattle.listing.proofs.lines.put_gate.Reads as put-gate-reads
 
 abbrev Inv-loop : tie.InvT-loop
 Inv-loop file gates out₀ at next₀ i₀ out next i = (i ≤ gates) × Left (gateLines (gatesOf file)) at out₀ (gateLines (drop i (gatesOf file))) next out
@@ -24,36 +19,29 @@ Inv-loop file gates out₀ at next₀ i₀ out next i = (i ≤ gates) × Left (g
 abbrev μ-loop : tie.MeasureT-loop
 μ-loop file gates out₀ at next₀ i₀ out next i = gates - i
 
--- src/lib.rt:72:5
 loop-holds : tie.Need-loop-holds Inv-loop μ-loop
 loop-holds c = let s = c .before .before in
     let a = s .args in
     (omega arith, all-left (gateLines (gatesOf (a .file .now))) (a .at) (a .out .now) (s .pre .1))
 
--- src/lib.rt:73:37
 gate-at-requires : tie.Need-gate-at-requires Inv-loop μ-loop
 gate-at-requires c κs = search needs
 
--- src/lib.rt:73:27
 enum-known-placed : tie.Need-enum-known-placed Inv-loop μ-loop
 enum-known-placed c = search needs
 
--- src/lib.rt:74:13
 enum-told : tie.Need-enum-told Inv-loop μ-loop
 enum-told c = search needs
 
--- src/lib.rt:74:13
 same-length : tie.Need-same-length Inv-loop μ-loop
 same-length c = c .before .before .before .before .loop .inv .1 .long
 
--- src/lib.rt:74:13
 returns : tie.Need-returns Inv-loop μ-loop
 returns c = let got = c .before .before in
     let at = got .before .before in
     let s = at .before .before in
     never-bad (s .before .args .file .now) (λ j. s .shared-slice-known .given j .fits) (s .before .pre .0 .0) (at .loop .i) (omega arith) (sym (got .gate-at .ensures) ∙ c .enum-told .given .1)
 
--- src/lib.rt:77:9
 put-gate-requires : tie.Need-put-gate-requires Inv-loop μ-loop
 put-gate-requires c κs = let found = c .before .before in
     let got = found .before .before in
@@ -66,15 +54,12 @@ put-gate-requires c κs = let found = c .before .before in
     (line-left (gatesOf f) (a .at) (a .out .now) (at .loop .i) (at .loop .next) (at .loop .out) (at .loop .inv .1) (q .gate)
     (next-gate f (λ j. s .shared-slice-known .given j .fits) (s .before .pre .0 .0) (at .loop .i) q (omega arith) (sym (got .gate-at .ensures) ∙ found .placed .given .1)))
 
--- src/lib.rt:78:9
 add-i : tie.Need-add-i Inv-loop μ-loop
 add-i c = omega arith
 
--- src/lib.rt:72:5
 loop-less : tie.Need-loop-less Inv-loop μ-loop
 loop-less c = omega arith
 
--- src/lib.rt:72:5
 loop-again : tie.Need-loop-again Inv-loop μ-loop
 loop-again c = let put = c .before .before in
     let found = put .before .before .before in
@@ -89,11 +74,9 @@ loop-again c = let put = c .before .before in
           (next-gate f (λ j. s .shared-slice-known .given j .fits) (s .before .pre .0 .0) (at .loop .i) q (omega arith) (sym (got .gate-at .ensures) ∙ found .placed .given .1)) (put .put-gate .ensures),
     )
 
--- src/lib.rt:65:1
 same-length-2 : tie.Need-same-length-2 Inv-loop μ-loop
 same-length-2 c = c .before .loop .inv .1 .long
 
--- src/lib.rt:65:1
 returns-2 : tie.Need-returns-2 Inv-loop μ-loop
 returns-2 c = let at = c .before in
     let s = at .before .before in

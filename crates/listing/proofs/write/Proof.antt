@@ -9,11 +9,6 @@ use Rattle.listing.proofs.Pieces.{listing-left}
 use borrow.Author.Needs.{needs}
 use Rattle.listing.proofs.write.Statement.{statement}
 use Rattle.listing.proofs.write.Tie as tie
-use Rattle.listing.proofs.write.Reads as reads
-use Rattle.listing.proofs.write.Lts as lts
-use Rattle.listing.proofs.lines.put_head.Reads as put-head-reads
-use Rattle.listing.proofs.lines.put_wrap.Reads as put-wrap-reads
-use Rattle.listing.proofs.put_gates.Reads as put-gates-reads
 
 start : (c : tie.Start) → Left (listingOfFile (c .args .wrapped) (c .args .file .now)) 0 (c .args .out .now) (headLines (c .args .wires) ++ (wrapLine (c .args .wrapped) (c .args .wires) ++ (gateLines (gatesOf (c .args .file .now)) ++ (wrapLine (c .args .wrapped) (c .args .wires))))) 0 (c .args .out .now)
 start c = let a = c .args in listing-left (a .wrapped) (a .file .now) (a .wires) (a .out .now) (c .pre .0 .2) (c .pre .1)
@@ -39,27 +34,21 @@ s3 c = c .before .before .before .before .before .before .before .before .before
 left3 : (c : tie.After-put-gates) → Left (listingOfFile (s3 c .args .wrapped) (s3 c .args .file .now)) 0 (s3 c .args .out .now) (wrapLine (s3 c .args .wrapped) (s3 c .args .wires)) (c .put-gates .result) (c .put-gates .last .1 .1 .0)
 left3 c = let a = s3 c .args in less-left (gateLines (gatesOf (a .file .now))) (wrapLine (a .wrapped) (a .wires)) (left2 (c .before .before .before .before)) (c .put-gates .ensures)
 
--- src/lib.rt:89:9
 put-head-requires : tie.Need-put-head-requires
 put-head-requires c κs = let s = c .before .before .before in let a = s .args in room (headLines (a .wires)) (wrapLine (a .wrapped) (a .wires) ++ (gateLines (gatesOf (a .file .now)) ++ (wrapLine (a .wrapped) (a .wires)))) (start s)
 
--- src/lib.rt:90:9
 put-wrap-requires : tie.Need-put-wrap-requires
 put-wrap-requires c κs = let p = c .before .before .before in let a = s1 p .args in (some-wires (s1 p), room (wrapLine (a .wrapped) (a .wires)) (gateLines (gatesOf (a .file .now)) ++ (wrapLine (a .wrapped) (a .wires))) (left1 p))
 
--- src/lib.rt:91:9
 put-gates-requires : tie.Need-put-gates-requires
 put-gates-requires c κs = let p = c .before .before .before in let a = s2 p .args in ((s2 p .pre .0 .0, s2 p .pre .0 .1), room (gateLines (gatesOf (a .file .now))) (wrapLine (a .wrapped) (a .wires)) (left2 p))
 
--- src/lib.rt:92:5
 put-wrap-requires-2 : tie.Need-put-wrap-requires-2
 put-wrap-requires-2 c κs = let p = c .before .before .before in (some-wires (s3 p), left3 p .fits)
 
--- src/lib.rt:84:1
 same-length : tie.Need-same-length
 same-length c = search needs
 
--- src/lib.rt:84:1
 returns : tie.Need-returns
 returns c = let p = c .before .before in all-written (left3 (p .before .before .before .before)) (p .put-wrap2 .ensures) .written
 

@@ -6,11 +6,6 @@ use Rattle.oracle_listing.proofs.Steps.{Ready, fold-ready, fold-refuses
 use borrow.Author.Needs.{needs}
 use Rattle.oracle_listing.proofs.list_folded.Statement.{statement}
 use Rattle.oracle_listing.proofs.list_folded.Tie as tie
-use Rattle.oracle_listing.proofs.list_folded.Reads as reads
-use Rattle.oracle_listing.proofs.list_folded.Lts as lts
-use Rattle.fold.proofs.fold.Reads as fold-reads
-use Rattle.listing.proofs.list.Reads as list-reads
-use Rattle.oracle_listing.proofs.file_room.Reads as file-room-reads
 
 -- what folding answered
 folded : (c : tie.After-length) → Ready (fileChecks 0 (c .before .before .before .before .before .before .before .before .args .file .now)) (foldedFile (c .before .before .before .before .before .before .before .before .args .file .now)) (c .before .before .before .fold .last .1 .0) (c .length .given .0 .0)
@@ -21,41 +16,32 @@ folded c =
     let v = c .length .given in
     fold-ready (known .before .args .file .now) (room .file-room .result) (λ j. known .shared-slice-known .given j .fits) (room .file-room .ensures) (did .fold .result) (did .fold .last .1 .0) (did .fold .ensures) (v .0 .0) (v .0 .1 .0) (v .0 .1 .1 .0) (v .1)
 
--- src/lib.rt:33:22
 file-room-requires : tie.Need-file-room-requires
 file-room-requires c κs = search needs
 
--- src/lib.rt:34:28
 slice-aggregate-fold : tie.Need-slice-aggregate-fold
 slice-aggregate-fold c = search needs
 
--- src/lib.rt:34:11
 fold-requires : tie.Need-fold-requires
 fold-requires c κs = search needs
 
--- src/lib.rt:35:25
 enum-known-refusal : tie.Need-enum-known-refusal
 enum-known-refusal c = search needs
 
--- src/lib.rt:37:13
 enum-known-length : tie.Need-enum-known-length
 enum-known-length c = search needs
 
--- src/lib.rt:40:28
 array-share-prefix-folded : tie.Need-array-share-prefix-folded
 array-share-prefix-folded c = folded (c .before) .fits
 
--- src/lib.rt:40:28
 slice-aggregate-list : tie.Need-slice-aggregate-list
 slice-aggregate-list c =
     let found = c .before .before in
     sym (length-take-le (found .length .given .0 .0) (found .before .before .before .fold .last .1 .0) (folded found .fits))
 
--- src/lib.rt:40:14
 list-requires : tie.Need-list-requires
 list-requires c κs = search needs
 
--- src/lib.rt:30:1
 returns : tie.Need-returns
 returns c =
     let found = c .before in
@@ -67,11 +53,9 @@ returns c =
     folded-refused (a .file .now) (a .out .now) r
     (fold-refuses (a .file .now) (room .file-room .result) (λ j. known .shared-slice-known .given j .fits) (room .file-room .ensures) (did .fold .result) (did .fold .last .1 .0) (did .fold .ensures) r (found .refusal .given .1))
 
--- src/lib.rt:30:1
 same-length : tie.Need-same-length
 same-length c = search needs
 
--- src/lib.rt:30:1
 returns-2 : tie.Need-returns-2
 returns-2 c =
     let last = c .before .before in

@@ -6,11 +6,6 @@ use Rattle.oracle_listing.proofs.Steps.{Ready, build-ready, build-refus
 use borrow.Author.Needs.{needs}
 use Rattle.oracle_listing.proofs.of_table.Statement.{statement}
 use Rattle.oracle_listing.proofs.of_table.Tie as tie
-use Rattle.oracle_listing.proofs.of_table.Reads as reads
-use Rattle.oracle_listing.proofs.of_table.Lts as lts
-use Rattle.build.proofs.build.Reads as build-reads
-use Rattle.oracle_listing.proofs.built_room.Reads as built-room-reads
-use Rattle.oracle_listing.proofs.list_folded.Reads as list-folded-reads
 
 -- what building answered
 built : (c : tie.After-length) → Ready (tableChecks (c .before .before .before .before .before .before .before .before .args .n) (c .before .before .before .before .before .before .before .before .args .table .now)) (builtFile (c .before .before .before .before .before .before .before .before .args .n) (c .before .before .before .before .before .before .before .before .args .table .now)) (c .before .before .before .build .last .1 .1 .0) (c .length .given .0 .0)
@@ -20,41 +15,32 @@ built c =
     let a = room .before .before .before .args in
     build-ready (a .n) (a .table .now) (room .built-room .result) (room .built-room .ensures) (did .build .result) (did .build .last .1 .1 .0) (did .build .ensures) (c .length .given .0 .0) (c .length .given .1)
 
--- src/lib.rt:48:21
 built-room-requires : tie.Need-built-room-requires
 built-room-requires c κs = search needs
 
--- src/lib.rt:49:34
 slice-aggregate-build : tie.Need-slice-aggregate-build
 slice-aggregate-build c = search needs
 
--- src/lib.rt:49:11
 build-requires : tie.Need-build-requires
 build-requires c κs = search needs
 
--- src/lib.rt:50:24
 enum-known-refusal : tie.Need-enum-known-refusal
 enum-known-refusal c = search needs
 
--- src/lib.rt:51:23
 enum-known-length : tie.Need-enum-known-length
 enum-known-length c = search needs
 
--- src/lib.rt:51:46
 array-share-prefix-built : tie.Need-array-share-prefix-built
 array-share-prefix-built c = built (c .before) .fits
 
--- src/lib.rt:51:46
 slice-aggregate-list-folded : tie.Need-slice-aggregate-list-folded
 slice-aggregate-list-folded c =
     let found = c .before .before in
     sym (length-take-le (found .length .given .0 .0) (found .before .before .before .build .last .1 .1 .0) (built found .fits))
 
--- src/lib.rt:51:34
 list-folded-requires : tie.Need-list-folded-requires
 list-folded-requires c κs = search needs
 
--- src/lib.rt:45:1
 returns : tie.Need-returns
 returns c =
     let found = c .before in
@@ -65,11 +51,9 @@ returns c =
     table-refused (a .n) (a .table .now) (a .out .now) r
     (build-refuses (a .n) (a .table .now) (room .built-room .result) (room .built-room .ensures) (did .build .result) (did .build .last .1 .1 .0) (did .build .ensures) r (found .refusal .given .1))
 
--- src/lib.rt:45:1
 same-length : tie.Need-same-length
 same-length c = search needs
 
--- src/lib.rt:45:1
 returns-2 : tie.Need-returns-2
 returns-2 c =
     let last = c .before .before in

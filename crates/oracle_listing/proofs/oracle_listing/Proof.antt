@@ -6,47 +6,34 @@ use Rattle.oracle_listing.proofs.Steps.{ListsOracle, empty-refused, res
 use borrow.Author.Needs.{needs}
 use Rattle.oracle_listing.proofs.oracle_listing.Statement.{statement}
 use Rattle.oracle_listing.proofs.oracle_listing.Tie as tie
-use Rattle.oracle_listing.proofs.oracle_listing.Reads as reads
-use Rattle.oracle_listing.proofs.oracle_listing.Lts as lts
-use Rattle.oracle_listing.proofs.of_table.Reads as of-table-reads
-use Rattle.refusal.proofs.by.Reads as by-reads
 
--- src/lib.rt:60:32
 by-requires : tie.Need-by-requires
 by-requires c κs = search needs
 
--- src/lib.rt:60:9
 returns : tie.Need-returns
 returns c =
     let t = c .before in
     let a = t .before .before .before .args in
     empty-refused (a .input .now) (t .if1 .taken) (a .out .now) (c .by .result) (c .by .ensures)
 
--- src/lib.rt:62:14
 shared-slice-read-of-table : tie.Need-shared-slice-read-of-table
 shared-slice-read-of-table c = search needs
 
--- src/lib.rt:62:24
 sub-of-table : tie.Need-sub-of-table
 sub-of-table c = search needs
 
--- src/lib.rt:62:24
 part-of-table-start : tie.Need-part-of-table-start
 part-of-table-start c = search needs
 
--- src/lib.rt:62:24
 part-of-table-end : tie.Need-part-of-table-end
 part-of-table-end c = search needs
 
--- src/lib.rt:62:5
 of-table-requires : tie.Need-of-table-requires
 of-table-requires c κs = search needs
 
--- src/lib.rt:56:1
 same-length : tie.Need-same-length
 same-length c = search needs
 
--- src/lib.rt:56:1
 returns-2 : tie.Need-returns-2
 returns-2 c =
     let last = c .before .before in

@@ -1,13 +1,10 @@
 use Prim.Native.Nat.{_≤_}
 use native.Mathlib.Omega.{arith}
-use mathlib.Core.Path.{_≡_, refl, sym, _∙_}
+use mathlib.Core.Path.{_≡_, refl}
 use Rattle.listing.specs.Fractions.{lowest, fractionOf}
 use Rattle.listing.proofs.Fractions.{halving, halving-odd, halving-whole}
 use Rattle.listing.proofs.lines.in_lowest_terms.Statement.{statement}
 use Rattle.listing.proofs.lines.in_lowest_terms.Tie as tie
-use Rattle.listing.proofs.lines.in_lowest_terms.Reads as reads
-use Rattle.listing.proofs.lines.in_lowest_terms.Lts as lts
-use Rattle.listing.proofs.lines.over_power.Reads as over-power-reads
 
 abbrev Inv-loop : tie.InvT-loop
 Inv-loop angle k₀ e₀ k e = (e ≤ 15) × (lowest e k ≡ fractionOf angle)
@@ -15,37 +12,29 @@ Inv-loop angle k₀ e₀ k e = (e ≤ 15) × (lowest e k ≡ fractionOf angle)
 abbrev μ-loop : tie.MeasureT-loop
 μ-loop angle k₀ e₀ k e = e
 
--- src/lines.rt:45:5
 loop-holds : tie.Need-loop-holds Inv-loop μ-loop
 loop-holds c = (omega arith, refl)
 
--- src/lines.rt:47:13
 over-power-requires : tie.Need-over-power-requires Inv-loop μ-loop
 over-power-requires c κs = omega arith
 
--- src/lines.rt:47:13
 returns : tie.Need-returns Inv-loop μ-loop
 returns c = let t = c .before in
     let at = t .before .before in
     halving-odd (at .loop .e) (at .loop .k) (fractionOf (at .before .args .angle)) (c .over-power .result) (omega arith) (t .if1 .taken) (at .loop .inv .1) (c .over-power .ensures)
 
--- src/lines.rt:50:9
 sub-e : tie.Need-sub-e Inv-loop μ-loop
 sub-e c = omega arith
 
--- src/lines.rt:45:5
 loop-less : tie.Need-loop-less Inv-loop μ-loop
 loop-less c = omega arith
 
--- src/lines.rt:45:5
 loop-again : tie.Need-loop-again Inv-loop μ-loop
 loop-again c = let at = c .before .before in (omega arith, halving (at .loop .e) (at .loop .k) (fractionOf (at .before .args .angle)) (omega arith) (c .if1 .left) (at .loop .inv .1))
 
--- src/lines.rt:52:5
 over-power-requires-2 : tie.Need-over-power-requires-2 Inv-loop μ-loop
 over-power-requires-2 c κs = omega arith
 
--- src/lines.rt:40:1
 returns-2 : tie.Need-returns-2 Inv-loop μ-loop
 returns-2 c = let at = c .before .before in
     halving-whole (at .loop .e) (at .loop .k) (fractionOf (at .before .args .angle)) (c .over-power2 .result) (omega arith) (at .loop .inv .1) (c .over-power2 .ensures)

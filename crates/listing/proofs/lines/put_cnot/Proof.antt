@@ -6,10 +6,6 @@ use Rattle.listing.proofs.Pieces.{cnot-left}
 use borrow.Author.Needs.{needs}
 use Rattle.listing.proofs.lines.put_cnot.Statement.{statement}
 use Rattle.listing.proofs.lines.put_cnot.Tie as tie
-use Rattle.listing.proofs.lines.put_cnot.Reads as reads
-use Rattle.listing.proofs.lines.put_cnot.Lts as lts
-use Rattle.listing.proofs.text.put_numbered.Reads as put-numbered-reads
-use Rattle.listing.proofs.text.put_text.Reads as put-text-reads
 
 abbrev s1 : tie.After-put-numbered → tie.Start
 s1 c = c .before .before .before .before
@@ -23,35 +19,27 @@ s2 c = c .before .before .before .before .before .before .before .before .before
 left2 : (c : tie.After-put-numbered2) → Left (cnotLine (s2 c .args .control) (s2 c .args .target)) (s2 c .args .at) (s2 c .args .out .now) (closing) (c .put-numbered2 .result) (c .put-numbered2 .last .1 .1 .0)
 left2 c = let a = s2 c .args in less-left (numbered "],q[" (a .target)) (closing) (left1 (c .before .before .before .before .before)) (c .put-numbered2 .ensures)
 
--- src/lines.rt:83:27
 slice-aggregate-put-numbered : tie.Need-slice-aggregate-put-numbered
 slice-aggregate-put-numbered c = search needs
 
--- src/lines.rt:83:9
 put-numbered-requires : tie.Need-put-numbered-requires
 put-numbered-requires c κs = let s = c .before .before .before in let a = s .args in room (numbered "cx q[" (a .control)) (numbered "],q[" (a .target) ++ (closing)) (cnot-left (a .control) (a .target) (a .at) (a .out .now) (s .pre))
 
--- src/lines.rt:84:27
 slice-aggregate-put-numbered-2 : tie.Need-slice-aggregate-put-numbered-2
 slice-aggregate-put-numbered-2 c = search needs
 
--- src/lines.rt:84:9
 put-numbered-requires-2 : tie.Need-put-numbered-requires-2
 put-numbered-requires-2 c κs = let p = c .before .before .before .before in let a = s1 p .args in room (numbered "],q[" (a .target)) (closing) (left1 p)
 
--- src/lines.rt:85:14
 slice-aggregate-put-text : tie.Need-slice-aggregate-put-text
 slice-aggregate-put-text c = search needs
 
--- src/lines.rt:85:5
 put-text-requires : tie.Need-put-text-requires
 put-text-requires c κs = left2 (c .before .before .before .before) .fits
 
--- src/lines.rt:79:1
 same-length : tie.Need-same-length
 same-length c = search needs
 
--- src/lines.rt:79:1
 returns : tie.Need-returns
 returns c = let p = c .before .before in all-written (left2 (p .before .before .before .before .before)) (p .put-text .ensures)
 

@@ -8,31 +8,21 @@ use Rattle.listing.specs.Listing.{phaseLine, gateLine}
 use borrow.Author.Needs.{needs}
 use Rattle.listing.proofs.lines.put_gate.Statement.{statement}
 use Rattle.listing.proofs.lines.put_gate.Tie as tie
-use Rattle.listing.proofs.lines.put_gate.Reads as reads
-use Rattle.listing.proofs.lines.put_gate.Lts as lts
-use Rattle.listing.proofs.lines.in_lowest_terms.Reads as in-lowest-terms-reads
-use Rattle.listing.proofs.lines.put_cnot.Reads as put-cnot-reads
-use Rattle.listing.proofs.lines.put_phase.Reads as put-phase-reads
 
--- src/lines.rt:104:22
 enum-known-gate : tie.Need-enum-known-gate
 enum-known-gate c = search needs
 
--- src/lines.rt:104:43
 put-cnot-requires : tie.Need-put-cnot-requires
 put-cnot-requires c κs = let s = c .before .before .before .before .before in
     let a = s .args in
     subst (λ (g : Gate). a .at + length (gateLine g) ≤ length (a .out .now)) (c .before .before .gate .given .1) (s .pre)
 
--- src/lines.rt:105:23
 enum-known-gate-2 : tie.Need-enum-known-gate-2
 enum-known-gate-2 c = search needs
 
--- src/lines.rt:105:56
 in-lowest-terms-requires : tie.Need-in-lowest-terms-requires
 in-lowest-terms-requires c κs = search needs
 
--- src/lines.rt:105:40
 put-phase-requires : tie.Need-put-phase-requires
 put-phase-requires c κs = let found = c .before .before .before in
     let s = found .before .before .before in
@@ -40,22 +30,18 @@ put-phase-requires c κs = let found = c .before .before .before in
     subst (λ (f : Fraction). a .at + length (phaseLine (found .gate2 .given .0 .0) f) ≤ length (a .out .now)) (sym (c .before .in-lowest-terms .ensures))
     (subst (λ (g : Gate). a .at + length (gateLine g) ≤ length (a .out .now)) (found .gate2 .given .1) (s .pre))
 
--- src/lines.rt:99:1
 same-length : tie.Need-same-length
 same-length c = search needs
 
--- src/lines.rt:99:1
 returns : tie.Need-returns
 returns c = let put = c .before .before in
     let found = put .before .before .before in
     let a = found .before .before .before .args in
     subst (λ (g : Gate). Wrote (gateLine g) (a .at) (a .out .now) (put .put-cnot .result) (put .put-cnot .last .1 .1 .0)) (sym (found .gate .given .1)) (put .put-cnot .ensures)
 
--- src/lines.rt:99:1
 same-length-2 : tie.Need-same-length-2
 same-length-2 c = search needs
 
--- src/lines.rt:99:1
 returns-2 : tie.Need-returns-2
 returns-2 c = let put = c .before .before in
     let low = put .before .before in

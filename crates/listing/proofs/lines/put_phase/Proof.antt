@@ -6,10 +6,6 @@ use Rattle.listing.proofs.Pieces.{phase-left}
 use borrow.Author.Needs.{needs}
 use Rattle.listing.proofs.lines.put_phase.Statement.{statement}
 use Rattle.listing.proofs.lines.put_phase.Tie as tie
-use Rattle.listing.proofs.lines.put_phase.Reads as reads
-use Rattle.listing.proofs.lines.put_phase.Lts as lts
-use Rattle.listing.proofs.text.put_numbered.Reads as put-numbered-reads
-use Rattle.listing.proofs.text.put_text.Reads as put-text-reads
 
 abbrev s1 : tie.After-put-numbered → tie.Start
 s1 c = c .before .before .before .before
@@ -29,43 +25,33 @@ s3 c = c .before .before .before .before .before .before .before .before .before
 left3 : (c : tie.After-put-numbered3) → Left (phaseLine (s3 c .args .wire) (s3 c .args .f)) (s3 c .args .at) (s3 c .args .out .now) (closing) (c .put-numbered3 .result) (c .put-numbered3 .last .1 .1 .0)
 left3 c = let a = s3 c .args in less-left (numbered ") q[" (a .wire)) (closing) (left2 (c .before .before .before .before .before)) (c .put-numbered3 .ensures)
 
--- src/lines.rt:92:27
 slice-aggregate-put-numbered : tie.Need-slice-aggregate-put-numbered
 slice-aggregate-put-numbered c = search needs
 
--- src/lines.rt:92:9
 put-numbered-requires : tie.Need-put-numbered-requires
 put-numbered-requires c κs = let s = c .before .before .before in let a = s .args in room (numbered "u1(" (a .f .above)) (numbered "*pi/" (a .f .below) ++ (numbered ") q[" (a .wire) ++ (closing))) (phase-left (a .wire) (a .f) (a .at) (a .out .now) (s .pre))
 
--- src/lines.rt:93:27
 slice-aggregate-put-numbered-2 : tie.Need-slice-aggregate-put-numbered-2
 slice-aggregate-put-numbered-2 c = search needs
 
--- src/lines.rt:93:9
 put-numbered-requires-2 : tie.Need-put-numbered-requires-2
 put-numbered-requires-2 c κs = let p = c .before .before .before .before in let a = s1 p .args in room (numbered "*pi/" (a .f .below)) (numbered ") q[" (a .wire) ++ (closing)) (left1 p)
 
--- src/lines.rt:94:27
 slice-aggregate-put-numbered-3 : tie.Need-slice-aggregate-put-numbered-3
 slice-aggregate-put-numbered-3 c = search needs
 
--- src/lines.rt:94:9
 put-numbered-requires-3 : tie.Need-put-numbered-requires-3
 put-numbered-requires-3 c κs = let p = c .before .before .before .before in let a = s2 p .args in room (numbered ") q[" (a .wire)) (closing) (left2 p)
 
--- src/lines.rt:95:14
 slice-aggregate-put-text : tie.Need-slice-aggregate-put-text
 slice-aggregate-put-text c = search needs
 
--- src/lines.rt:95:5
 put-text-requires : tie.Need-put-text-requires
 put-text-requires c κs = left3 (c .before .before .before .before) .fits
 
--- src/lines.rt:88:1
 same-length : tie.Need-same-length
 same-length c = search needs
 
--- src/lines.rt:88:1
 returns : tie.Need-returns
 returns c = let p = c .before .before in all-written (left3 (p .before .before .before .before .before)) (p .put-text .ensures)
 

@@ -1,7 +1,7 @@
 use Prim.Native.Nat.{ℕ, _-_}
 use native.Mathlib.Omega.{arith}
-use mathlib.Core.Path.{ap, subst}
-use mathlib.Core.List.{List, _++_}
+use mathlib.Core.Path.{subst}
+use mathlib.Core.List.{List}
 use Rattle.listing.specs.Text.{numbered, Wrote}
 use Rattle.listing.specs.Listing.{closing, wrapLine}
 use Rattle.listing.proofs.Writing.{Left, room, less-left, all-written, wrote-nothing}
@@ -9,10 +9,6 @@ use Rattle.listing.proofs.Pieces.{wrap-left, not-wrapped}
 use borrow.Author.Needs.{needs}
 use Rattle.listing.proofs.lines.put_wrap.Statement.{statement}
 use Rattle.listing.proofs.lines.put_wrap.Tie as tie
-use Rattle.listing.proofs.lines.put_wrap.Reads as reads
-use Rattle.listing.proofs.lines.put_wrap.Lts as lts
-use Rattle.listing.proofs.text.put_numbered.Reads as put-numbered-reads
-use Rattle.listing.proofs.text.put_text.Reads as put-text-reads
 
 left1 : (c : tie.After-put-numbered) → Left (wrapLine (c .before .before .before .before .before .args .wrapped) (c .before .before .before .before .before .args .wires)) (c .before .before .before .before .before .args .at) (c .before .before .before .before .before .args .out .now) closing (c .put-numbered .result) (c .put-numbered .last .1 .1 .0)
 left1 c =
@@ -21,42 +17,33 @@ left1 c =
     let a = s .args in
     less-left (numbered "h q[" (a .wires - 1)) closing (wrap-left (a .wrapped) (a .wires) (a .at) (a .out .now) (t .if1 .taken) (s .pre .1)) (c .put-numbered .ensures)
 
--- src/lines.rt:73:31
 slice-aggregate-put-numbered : tie.Need-slice-aggregate-put-numbered
 slice-aggregate-put-numbered c = search needs
 
--- src/lines.rt:73:41
 sub-put-numbered : tie.Need-sub-put-numbered
 sub-put-numbered c = search needs
 
--- src/lines.rt:73:40
 cast-put-numbered : tie.Need-cast-put-numbered
 cast-put-numbered c = search needs
 
--- src/lines.rt:73:13
 put-numbered-requires : tie.Need-put-numbered-requires
 put-numbered-requires c κs = let t = c .before .before in
     let s = t .before .before in
     let a = s .args in
     room (numbered "h q[" (a .wires - 1)) closing (wrap-left (a .wrapped) (a .wires) (a .at) (a .out .now) (t .if1 .taken) (s .pre .1))
 
--- src/lines.rt:74:25
 slice-aggregate-put-text : tie.Need-slice-aggregate-put-text
 slice-aggregate-put-text c = search needs
 
--- src/lines.rt:74:9
 put-text-requires : tie.Need-put-text-requires
 put-text-requires c κs = left1 (c .before .before .before .before) .fits
 
--- src/lines.rt:74:9
 same-length : tie.Need-same-length
 same-length c = search needs
 
--- src/lines.rt:74:9
 returns : tie.Need-returns
 returns c = let p = c .before .before in all-written (left1 (p .before .before .before .before .before)) (p .put-text .ensures)
 
--- src/lines.rt:67:1
 returns-2 : tie.Need-returns-2
 returns-2 c = let s = c .before .before in
     let a = s .args in

@@ -1,7 +1,6 @@
 use native.Mathlib.Omega.{arith}
 use mathlib.Core.Path.{_∙_}
-use Rattle.listing.specs.Text.{digit, decimal}
-use Rattle.listing.proofs.Writing.{Left, room, all-written, digit-room, digit-written, first-room, last-left}
+use Rattle.listing.proofs.Writing.{all-written, digit-room, digit-written, first-room, last-left}
 use Prim.Native.Nat.{ℕ, _<_}
 use borrow.Fn.Kinds.{In}
 use borrow.Fn.PlainCycle.{Measures, is, falls, and}
@@ -23,7 +22,6 @@ abbrev put-decimal-below : ℕ → In 1 put-decimal-kinds.ps
 put-decimal-below t =
     and 1 put-decimal-kinds.ps (falls 1 put-decimal-kinds.ps _<_ μ-put-decimal t) put-decimal.Pre
 
--- src/text.rt:34:9
 put-decimal-put-digit-requires : (t : ℕ) → put-decimal-lts.Need-put-digit-requires (
   put-digit-reads.Asked,
   put-digit-reads.Learnt,
@@ -33,7 +31,6 @@ put-decimal-put-digit-requires : (t : ℕ) → put-decimal-lts.Need-put-digit-re
 put-decimal-put-digit-requires t c κs = let s = c .before .before .before in
     (c .before .if1 .taken, digit-room (s .args .n) (s .args .at) (s .args .out .now) (s .pre .1) (c .before .if1 .taken))
 
--- src/text.rt:34:9
 put-decimal-same-length : (t : ℕ) → put-decimal-lts.Need-same-length (
   put-digit-reads.Asked,
   put-digit-reads.Learnt,
@@ -42,7 +39,6 @@ put-decimal-same-length : (t : ℕ) → put-decimal-lts.Need-same-length (
 ) (put-decimal-at t) put-decimal.Post
 put-decimal-same-length t c = c .before .before .put-digit .kept .1 .0
 
--- src/text.rt:34:9
 put-decimal-returns : (t : ℕ) → put-decimal-lts.Need-returns (
   put-digit-reads.Asked,
   put-digit-reads.Learnt,
@@ -53,7 +49,6 @@ put-decimal-returns t c = let d = c .before .before in
     let s = d .before .before .before .before in
     digit-written (s .args .n) (s .args .at) (s .args .out .now) (s .pre .1) (d .before .before .if1 .taken) (d .put-digit .ensures)
 
--- src/text.rt:36:9
 put-decimal-put-decimal-requires : (t : ℕ) → put-decimal-lts.Need-put-decimal-requires (
   put-digit-reads.Asked,
   put-digit-reads.Learnt,
@@ -63,7 +58,6 @@ put-decimal-put-decimal-requires : (t : ℕ) → put-decimal-lts.Need-put-decima
 put-decimal-put-decimal-requires t c κs = let s = c .before .before .before in
     (omega arith, first-room (s .args .n) (s .args .at) (s .args .out .now) (s .pre .1) (c .before .if1 .left))
 
--- src/text.rt:37:5
 put-decimal-put-digit-requires-2 : (t : ℕ) → put-decimal-lts.Need-put-digit-requires-2 (
   put-digit-reads.Asked,
   put-digit-reads.Learnt,
@@ -74,7 +68,6 @@ put-decimal-put-digit-requires-2 t c κs = let d = c .before .before .before in
     let s = d .before .before .before .before in
     (omega arith, last-left (s .args .n) (s .args .at) (s .args .out .now) (s .pre .1) (d .before .before .if1 .left) (d .put-decimal .ensures) .fits)
 
--- src/text.rt:29:1
 put-decimal-same-length-2 : (t : ℕ) → put-decimal-lts.Need-same-length-2 (
   put-digit-reads.Asked,
   put-digit-reads.Learnt,
@@ -84,7 +77,6 @@ put-decimal-same-length-2 : (t : ℕ) → put-decimal-lts.Need-same-length-2 (
 put-decimal-same-length-2 t c = let d = c .before .before in
     d .put-digit2 .kept .1 .0 ∙ d .before .before .before .before .put-decimal .kept .1 .0
 
--- src/text.rt:29:1
 put-decimal-returns-2 : (t : ℕ) → put-decimal-lts.Need-returns-2 (
   put-digit-reads.Asked,
   put-digit-reads.Learnt,
