@@ -35,7 +35,7 @@ returns : tie.Need-returns
 returns c = let l = c .before .before in
     let s = l .before .before .before .before in
     let a = s .args in
-    room-fails (a .wrapped) (a .file .now) (a .out .now) (s .pre .0) _ (whole l) (c .before .if1 .taken) (c .by .result) (c .by .ensures)
+    room-fails (a .wrapped) (a .file .now) (a .out .now) (s .pre .0) _ (whole l) (omega (arith, c .before .if1 .taken)) (c .by .result) (c .by .ensures)
 
 write-requires : tie.Need-write-requires
 write-requires c κs = let l = c .before .before in

@@ -29,7 +29,7 @@ put-decimal-put-digit-requires : (t : ℕ) → put-decimal-lts.Need-put-digit-re
   put-decimal.Post,
 ) (put-decimal-at t) put-decimal.Post
 put-decimal-put-digit-requires t c κs = let s = c .before .before .before in
-    (c .before .if1 .taken, digit-room (s .args .n) (s .args .at) (s .args .out .now) (s .pre .1) (c .before .if1 .taken))
+    (omega (arith, c .before .if1 .taken), digit-room (s .args .n) (s .args .at) (s .args .out .now) (s .pre .1) (omega (arith, c .before .if1 .taken)))
 
 put-decimal-same-length : (t : ℕ) → put-decimal-lts.Need-same-length (
   put-digit-reads.Asked,
@@ -47,7 +47,7 @@ put-decimal-returns : (t : ℕ) → put-decimal-lts.Need-returns (
 ) (put-decimal-at t) put-decimal.Post
 put-decimal-returns t c = let d = c .before .before in
     let s = d .before .before .before .before in
-    digit-written (s .args .n) (s .args .at) (s .args .out .now) (s .pre .1) (d .before .before .if1 .taken) (d .put-digit .ensures)
+    digit-written (s .args .n) (s .args .at) (s .args .out .now) (s .pre .1) (omega (arith, d .before .before .if1 .taken)) (d .put-digit .ensures)
 
 put-decimal-put-decimal-requires : (t : ℕ) → put-decimal-lts.Need-put-decimal-requires (
   put-digit-reads.Asked,
@@ -56,7 +56,7 @@ put-decimal-put-decimal-requires : (t : ℕ) → put-decimal-lts.Need-put-decima
   put-decimal.Post,
 ) (put-decimal-at t) put-decimal.Post
 put-decimal-put-decimal-requires t c κs = let s = c .before .before .before in
-    (omega arith, first-room (s .args .n) (s .args .at) (s .args .out .now) (s .pre .1) (c .before .if1 .left))
+    (omega arith, first-room (s .args .n) (s .args .at) (s .args .out .now) (s .pre .1) (omega (arith, c .before .if1 .left)))
 
 put-decimal-put-digit-requires-2 : (t : ℕ) → put-decimal-lts.Need-put-digit-requires-2 (
   put-digit-reads.Asked,
@@ -66,7 +66,7 @@ put-decimal-put-digit-requires-2 : (t : ℕ) → put-decimal-lts.Need-put-digit-
 ) (put-decimal-at t) put-decimal.Post
 put-decimal-put-digit-requires-2 t c κs = let d = c .before .before .before in
     let s = d .before .before .before .before in
-    (omega arith, last-left (s .args .n) (s .args .at) (s .args .out .now) (s .pre .1) (d .before .before .if1 .left) (d .put-decimal .ensures) .fits)
+    (omega arith, last-left (s .args .n) (s .args .at) (s .args .out .now) (s .pre .1) (omega (arith, d .before .before .if1 .left)) (d .put-decimal .ensures) .fits)
 
 put-decimal-same-length-2 : (t : ℕ) → put-decimal-lts.Need-same-length-2 (
   put-digit-reads.Asked,
@@ -86,7 +86,7 @@ put-decimal-returns-2 : (t : ℕ) → put-decimal-lts.Need-returns-2 (
 put-decimal-returns-2 t c = let d = c .before .before in
     let p = d .before .before .before .before in
     let s = p .before .before .before .before in
-    all-written (last-left (s .args .n) (s .args .at) (s .args .out .now) (s .pre .1) (p .before .before .if1 .left) (p .put-decimal .ensures)) (d .put-digit2 .ensures)
+    all-written (last-left (s .args .n) (s .args .at) (s .args .out .now) (s .pre .1) (omega (arith, p .before .before .if1 .left)) (p .put-decimal .ensures)) (d .put-digit2 .ensures)
 
 pub +put-decimal-spec : {M : Type 1} → statement M
 +put-decimal-spec = close μ-put-decimal λ t. put-decimal-lts.spec (
