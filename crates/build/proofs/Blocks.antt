@@ -13,8 +13,8 @@ use Rattle.numbers.proofs.Sums.{ℕ-adds}
 use Rattle.numbers.proofs.Lists.{length-list, getD-list}
 use Rattle.circuit.specs.declared.Gate.{Gate}
 use Rattle.circuit.specs.declared.Gate.the-variants.{Cnot, Phase}
-use Rattle.circuit.specs.Masks.{ownMasks, masksAfter, masksFrom, sumMet}
-use Rattle.circuit.proofs.Masks.{masks-none, masks-cons, masks-append, sum-none, sum-cons, sum-append}
+use Rattle.running.specs.Masks.{ownMasks, masksAfter, masksFrom, sumMet}
+use Rattle.running.proofs.Masks.{masks-none, masks-cons, masks-append, sum-none, sum-cons, sum-append}
 use Rattle.build.specs.Gray.{turned, word}
 use Rattle.build.specs.Construction.{inTurn, cnotAfter, block}
 use Rattle.build.proofs.Gray.{word-below, word-closes, turned-below, words-sum}

@@ -7,7 +7,7 @@ use Rattle.numbers.specs.Bits.{dot}
 use Rattle.table.specs.Table.{valueAt}
 use Rattle.circuit.specs.Gates.{bytesOf}
 use Rattle.circuit.specs.File.{fileOf}
-use Rattle.circuit.specs.Run.{score}
+use Rattle.running.specs.Run.{score}
 use Rattle.build.specs.Gray.{turned, word}
 use Rattle.build.specs.Construction.{construction, builtFile}
 

@@ -15,9 +15,9 @@ use Rattle.spectrum.specs.Spectrum.{coefficient, theta}
 use Rattle.circuit.specs.declared.Gate.{Gate}
 use Rattle.circuit.specs.declared.Gate.the-variants.{Phase}
 use Rattle.circuit.specs.Gates.{AllSound}
-use Rattle.circuit.specs.Masks.{ownMasks, masksFrom, sumMet}
+use Rattle.running.specs.Masks.{ownMasks, masksFrom, sumMet}
 use Rattle.circuit.proofs.Decoding.{sound-cons, sound-append}
-use Rattle.circuit.proofs.Masks.{masks-none, masks-cons, masks-append, sum-none, sum-cons, sum-append}
+use Rattle.running.proofs.Masks.{masks-none, masks-cons, masks-append, sum-none, sum-cons, sum-append}
 use Rattle.build.specs.Gray.{word}
 use Rattle.build.specs.Construction.{inTurn, cnotAfter, block, minus, firstQuarter, variables, target, parts, construction}
 use Rattle.build.proofs.Gray.{turned-below, word-below}

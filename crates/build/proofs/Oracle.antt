@@ -18,9 +18,9 @@ use Rattle.numbers.proofs.Wires.{same-bits, dot-power}
 use Rattle.spectrum.specs.Spectrum.{coefficient, angle, theta}
 use Rattle.spectrum.proofs.Inversion.{spectrum-inverts}
 use Rattle.spectrum.proofs.Angles.{angle-add, angle-opposite, angle-positive, angle-negative}
-use Rattle.circuit.specs.Run.{endFrom, totalFrom}
-use Rattle.circuit.proofs.Runs.{end-below}
-use Rattle.circuit.proofs.Masks.{wire-parity, total-parity}
+use Rattle.running.specs.Run.{endFrom, totalFrom}
+use Rattle.running.proofs.Runs.{end-below}
+use Rattle.running.proofs.Masks.{wire-parity, total-parity}
 use Rattle.build.specs.Construction.{minus, construction}
 use Rattle.build.proofs.Circuits.{theta-below, sound-construction, construction-masks, construction-sum}
 

@@ -8,7 +8,7 @@ use lib.Arith.{digits-lt}
 use lib.Pow.{pow-add, pow-mono}
 use Rattle.refusal.specs.Checks.{passed, outcome}
 use Rattle.table.specs.Table.{valueAt}
-use Rattle.circuit.specs.Run.{endFrom, phaseFrom}
+use Rattle.running.specs.Run.{endFrom, phaseFrom}
 use Rattle.circuit.specs.File.{wiresOf, countOf, gatesOf, fileChecks}
 use Rattle.circuit.proofs.Files.{length-file, wires-written, count-written, list-written, written-passes}
 use Rattle.build.specs.Construction.{construction, builtFile}

@@ -1,9 +1,10 @@
 -- 01, "The built circuit": its gates "in this order", its file, and what the operation answers.
 use Prim.Native.Nat.{ℕ, zero, suc, _+_, _-_, _%_, _^_}
 use mathlib.Core.List.{List, [], _∷_, _++_}
+use lib.ListN.{length}
 use Rattle.numbers.specs.Sums.{sumOf}
-use Rattle.refusal.specs.Checks.{Check, roomCheck}
-use Rattle.refusal.specs.Contract.{Said, values, saidOf}
+use Rattle.refusal.specs.Checks.{Check, outcome, roomCheck}
+use Rattle.refusal.specs.Contract.{Said, values, saidOf, Meets}
 use Rattle.table.specs.Table.{tableChecks, valueAt}
 use Rattle.spectrum.specs.Spectrum.{theta}
 use Rattle.circuit.specs.declared.Gate.{Gate}
@@ -62,3 +63,7 @@ buildChecks n t room = tableChecks n t ++ roomCheck room (2 ^ (n + 4))
 abbrev pub builtSays : Built → Said
 builtSays (Length l) = values (l ∷ [])
 builtSays (Refused r) = saidOf r
+
+-- the contract of build
+abbrev pub Builds : ℕ → List ℕ → List ℕ → Built → List ℕ → Type 0
+Builds n t out answer after = Meets builtSays (outcome (buildChecks n t (length out))) (2 ^ (n + 4) ∷ []) (builtFile n t) out answer after

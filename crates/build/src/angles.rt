@@ -1,6 +1,6 @@
 // theta_k from s_k, and its opposite.
 ghost use mathlib.Core.Path.{_≡_};
-ghost use Prim.Native.Nat.{ℕ, _≤_, _<_, _-_, _*_, _%_};
+ghost use Prim.Native.Nat.{ℕ, _≤_, _*_, _%_};
 ghost use lib.ListN.{length, getD};
 ghost use lib.IntN.{pos, natAbs};
 ghost use Rattle.numbers.specs.Sums.{list};

@@ -6,14 +6,11 @@ mod angles;
 mod block;
 
 ghost use mathlib.Core.Path.{_≡_};
-ghost use mathlib.Core.List.{[], _∷_};
 ghost use Prim.Native.Nat.{_^_, _+_, _<_, _≤_};
 ghost use lib.ListN.{length, getD};
 ghost use Rattle.circuit.specs.Gates.{putAt};
 ghost use Rattle.circuit.specs.File.{fileOf};
-ghost use Rattle.refusal.specs.Checks.{outcome};
-ghost use Rattle.refusal.specs.Contract.{Meets};
-ghost use Rattle.build.specs.Construction.{parts, builtFile, buildChecks, builtSays};
+ghost use Rattle.build.specs.Construction.{parts, Builds};
 
 pub enum Built {
     Length(usize),
@@ -22,7 +19,7 @@ pub enum Built {
 
 // Puts the circuit file of the table's oracle at the front of out and answers the file's length.
 pub fn build(n: u8, table: &[u8], out: &mut [u8]) -> Built
-    ensures { λ r. ⌜ Meets builtSays (outcome (buildChecks n (now (table .entry)) (length (now (out .entry))))) (2 ^ (n + 4) ∷ []) (builtFile n (now (table .entry))) (now (out .entry)) r (now (out .exit)) ⌝ }
+    ensures { λ r. ⌜ Builds n (now (table .entry)) (now (out .entry)) r (now (out .exit)) ⌝ }
 {
     let mut coefficients = [0i32; 256];
     if let Transformed::Refused(r) = spectrum::spectrum(n, table, &mut coefficients) {

@@ -1,11 +1,11 @@
 // count file BYTES: cnots CNOTS phases PHASES score SCORE
 use crate::line;
 use crate::line::Line;
-use circuit::Counted;
+use running::Counted;
 
 pub fn serve(line: &mut Line, file: &[u8]) -> usize {
     let at = line::bytes(line, 0, b"count file ", file);
-    said(line, at, circuit::count(file))
+    said(line, at, running::count(file))
 }
 
 fn said(line: &mut Line, at: usize, answer: Counted) -> usize {

@@ -2,13 +2,13 @@
 use crate::line;
 use crate::line::Line;
 use crate::request::Request;
-use circuit::Ran;
+use running::Ran;
 
 pub fn serve(line: &mut Line, r: Request, file: &[u8]) -> usize {
     let start = r.b;
     let at = line::bytes(line, 0, b"run file ", file);
     let at = line::number(line, at, b" start ", start as u64);
-    said(line, at, circuit::run(file, start))
+    said(line, at, running::run(file, start))
 }
 
 fn said(line: &mut Line, at: usize, answer: Ran) -> usize {

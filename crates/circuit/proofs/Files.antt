@@ -10,7 +10,6 @@ use lib.Seq.{drop-drop, getD-drop}
 use borrow.Author.Tests.{le-leb, lt-leb}
 use Rattle.refusal.specs.declared.Refusal.{Refusal}
 use Rattle.refusal.specs.Checks.{passed, refused, outcome}
-use Rattle.refusal.specs.Contract.{Says}
 use Rattle.refusal.proofs.Passed.{passed-fail, fail-passed}
 use Rattle.refusal.proofs.Contracts.{says-refused, says-values}
 use Rattle.circuit.specs.declared.Gate.{Gate}
@@ -19,7 +18,7 @@ use Rattle.circuit.specs.declared.Decoded.the-variants.{Good, Bad}
 use Rattle.circuit.specs.declared.Reading.{Reading}
 use Rattle.circuit.specs.declared.Reading.the-variants.{Circuit, Refused}
 use Rattle.circuit.specs.Gates.{good, decoded, decodedAt, bytesOf, gatesFrom, firstBad, Sound, AllSound}
-use Rattle.circuit.specs.File.{markOf, versionOf, wiresOf, countOf, gatesOf, badOf, gateAt, fileChecks, fileOf, readingSays}
+use Rattle.circuit.specs.File.{markOf, versionOf, wiresOf, countOf, gatesOf, badOf, gateAt, fileChecks, fileOf, Reads}
 use Rattle.circuit.proofs.Decoding.{first-bad, first-good, Bytes, bytes-drop, Listed, listed, gate-at, front, first-written, gates-written, length-bytes}
 
 -- the gate at i where its bytes lie in the file, byte by byte, and where they do not
@@ -175,10 +174,6 @@ module _ (f : List ℕ) (bytes : Bytes f) (h : GoodFile f) where
   pub gates-end : (i : ℕ) → countOf f ≤ i → drop i (gatesOf f) ≡ []
   gates-end i k = drop-of-length-le (gatesOf f) {i = i} (omega (arith, length-gates))
 
--- the reader's contract
-abbrev pub ReadSays : ℕ → List ℕ → Reading → Type 0
-ReadSays s f r = Says readingSays (outcome (fileChecks s f)) (wiresOf f ∷ countOf f ∷ []) r
-
 -- what a caller of the reader knows when it answers
 pub record Answered (s : ℕ) (f : List ℕ) (w g : ℕ) : Type 0 where
   pub passes : outcome (fileChecks s f) ≡ passed
@@ -186,7 +181,7 @@ pub record Answered (s : ℕ) (f : List ℕ) (w g : ℕ) : Type 0 where
   pub wires : w ≡ wiresOf f
   pub count : g ≡ countOf f
 
-module _ (s : ℕ) (f : List ℕ) (r : Reading) (says : ReadSays s f r) where
+module _ (s : ℕ) (f : List ℕ) (r : Reading) (says : Reads s f r) where
   pub read-answers : (w g : ℕ) → r ≡ Circuit w g → Answered s f w g
   read-answers w g e =
       let v = says-values (outcome (fileChecks s f)) (wiresOf f ∷ countOf f ∷ []) (w ∷ g ∷ []) (rw e at says) in

@@ -5,8 +5,8 @@ use mathlib.Core.List.{List, [], _∷_, _++_}
 use lib.Dec.{leb}
 use lib.ListN.{length, getD, drop}
 use Rattle.refusal.specs.Names.{refusalAt, SHORT, MARK, VERSION, WIRES, COUNT, LENGTH, GATE}
-use Rattle.refusal.specs.Checks.{Check, check, less, same, other}
-use Rattle.refusal.specs.Contract.{Said, values, saidOf}
+use Rattle.refusal.specs.Checks.{Check, check, less, same, other, outcome}
+use Rattle.refusal.specs.Contract.{Said, values, saidOf, Says}
 use Rattle.circuit.specs.declared.Gate.{Gate}
 use Rattle.circuit.specs.declared.Decoded.{Decoded}
 use Rattle.circuit.specs.declared.Decoded.the-variants.{Bad}
@@ -64,3 +64,7 @@ fileOf w gs = headerBytes w (length gs) ++ bytesOf gs
 abbrev pub readingSays : Reading → Said
 readingSays (Circuit w g) = values (w ∷ g ∷ [])
 readingSays (Refused r) = saidOf r
+
+-- the contract of read
+abbrev pub Reads : ℕ → List ℕ → Reading → Type 0
+Reads s f answer = Says readingSays (outcome (fileChecks s f)) (wiresOf f ∷ countOf f ∷ []) answer

@@ -1,4 +1,2 @@
 pub mod Gates
 pub mod File
-pub mod Run
-pub mod Masks

@@ -5,14 +5,11 @@ use crate::decoder::decode;
 use crate::decoder::word;
 use refusal::Refusal;
 ghost use mathlib.Core.Path.{_≡_};
-ghost use mathlib.Core.List.{[], _∷_};
 ghost use Prim.Native.Nat.{_+_, _*_, _≤_};
 ghost use lib.ListN.{length, drop};
-ghost use Rattle.refusal.specs.Checks.{outcome};
-ghost use Rattle.refusal.specs.Contract.{Says};
 ghost use Rattle.circuit.specs.declared.Reading.the-variants.{Refused};
 ghost use Rattle.circuit.specs.Gates.{firstBad};
-ghost use Rattle.circuit.specs.File.{wiresOf, countOf, gateAt, fileChecks, readingSays};
+ghost use Rattle.circuit.specs.File.{wiresOf, gateAt, Reads};
 
 // The gate at position `i`; bad where its bytes do not all lie in the file.
 pub fn gate_at(file: &[u8], i: usize) -> Decoded
@@ -70,7 +67,7 @@ fn refused(number: u8, side: u8, position: usize) -> Reading
 
 // The wires and the gate count of a file, or the refusal of the first check that fails.
 pub fn read(file: &[u8], side: u8) -> Reading
-    ensures { λ r. ⌜ Says readingSays (outcome (fileChecks side (now (file .entry)))) (wiresOf (now (file .entry)) ∷ countOf (now (file .entry)) ∷ []) r ⌝ }
+    ensures { λ r. ⌜ Reads side (now (file .entry)) r ⌝ }
 {
     if file.len() < 8 {
         return refused(refusal::SHORT, side, 0);

@@ -15,10 +15,10 @@ use Rattle.refusal.specs.Checks.{passed, outcome}
 use Rattle.circuit.specs.declared.Gate.{Gate}
 use Rattle.circuit.specs.declared.Gate.the-variants.{Cnot, Phase}
 use Rattle.circuit.specs.File.{wiresOf, countOf, gatesOf, fileChecks}
-use Rattle.circuit.specs.Masks.{ownMasks, powers, masksAfter, met, sumMet}
+use Rattle.running.specs.Masks.{ownMasks, powers, masksAfter, met, sumMet}
 use Rattle.circuit.proofs.Decoding.{Bytes}
 use Rattle.circuit.proofs.Files.{good-file, file-sound, gates-end}
-use Rattle.circuit.proofs.Masks.{MasksBelow, own-below, after-below, length-after, powers-own, own-alike, sum-alike, sum-none, sum-cons}
+use Rattle.running.proofs.Masks.{MasksBelow, own-below, after-below, length-after, powers-own, own-alike, sum-alike, sum-none, sum-cons}
 use Rattle.fold.specs.Fold.{groupTotal}
 use Rattle.fold.specs.Totals.{Totals, addedTo}
 

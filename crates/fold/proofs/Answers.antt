@@ -16,7 +16,7 @@ use Rattle.refusal.proofs.Outcomes.{reaches, then-refused, then-passed}
 use Rattle.refusal.proofs.Contracts.{Distinct, same-refusal, one-answer, meets-refused, meets-passed}
 use Rattle.circuit.specs.Gates.{bytesOf, putAt}
 use Rattle.circuit.specs.File.{wiresOf, gatesOf, fileChecks, fileOf, headerBytes}
-use Rattle.circuit.specs.Run.{cnots, score}
+use Rattle.running.specs.Run.{cnots, score}
 use Rattle.circuit.proofs.Decoding.{Bytes}
 use Rattle.circuit.proofs.Files.{good-file}
 use Rattle.circuit.proofs.Writing.{put-fits, put-put}

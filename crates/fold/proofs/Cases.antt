@@ -4,7 +4,7 @@ use mathlib.Core.Path.{_≡_, refl}
 use mathlib.Core.List.{List, [], _∷_}
 use Rattle.circuit.specs.declared.Gate.{Gate}
 use Rattle.circuit.specs.declared.Gate.the-variants.{Cnot, Phase}
-use Rattle.circuit.specs.Masks.{masksFrom, sumMet}
+use Rattle.running.specs.Masks.{masksFrom, sumMet}
 use Rattle.fold.specs.Fold.{folded, foldedFrom}
 
 -- the wires, the gates, and what folding gives

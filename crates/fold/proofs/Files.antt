@@ -8,7 +8,7 @@ use Rattle.refusal.specs.Checks.{passed, outcome}
 use Rattle.circuit.specs.declared.Gate.{Gate}
 use Rattle.circuit.specs.Gates.{AllSound}
 use Rattle.circuit.specs.File.{wiresOf, gatesOf, fileChecks, fileOf}
-use Rattle.circuit.specs.Run.{endFrom, phaseFrom, cnots, score}
+use Rattle.running.specs.Run.{endFrom, phaseFrom, cnots, score}
 use Rattle.circuit.proofs.Decoding.{Bytes}
 use Rattle.circuit.proofs.Files.{good-file, file-sound, length-gates, wires-written, length-file, list-written, written-passes}
 use Rattle.fold.specs.Fold.{folded, foldedFile, cnotsOf}

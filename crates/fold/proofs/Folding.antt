@@ -1,5 +1,5 @@
 -- What folding keeps, over every number of wires: the CNOTs, every group's total, every run, and itself when folded again.
-use Prim.Native.Nat.{ℕ, zero, suc, _*_, _^_, _<_, _≤_, _%_}
+use Prim.Native.Nat.{ℕ, zero, suc, _*_, _%_, _^_, _<_, _≤_}
 use native.Mathlib.Nat.{mod-mod, mul-zero}
 use native.Mathlib.Omega.{arith}
 use mathlib.Core.Path.{_≡_, refl, sym, ap, ap₂, _∙_}
@@ -12,10 +12,10 @@ use Rattle.numbers.proofs.Angles.{≈-sum}
 use Rattle.circuit.specs.declared.Gate.{Gate}
 use Rattle.circuit.specs.declared.Gate.the-variants.{Cnot, Phase}
 use Rattle.circuit.specs.Gates.{AllSound}
-use Rattle.circuit.specs.Run.{stepped, endFrom, totalFrom, phaseFrom, cnots}
-use Rattle.circuit.specs.Masks.{ownMasks, masksAfter, masksFrom, sumMet}
-use Rattle.circuit.proofs.Masks.{own-below, total-parity}
-use Rattle.circuit.proofs.Groups.{collect, sum-vanishes}
+use Rattle.running.specs.Run.{stepped, endFrom, totalFrom, phaseFrom, cnots}
+use Rattle.running.specs.Masks.{ownMasks, masksAfter, masksFrom, sumMet}
+use Rattle.running.proofs.Masks.{own-below, total-parity}
+use Rattle.running.proofs.Groups.{collect, sum-vanishes}
 use Rattle.fold.specs.Fold.{groupTotal, folded, cnotsOf}
 use Rattle.fold.proofs.Passing.{passed, same-function, ifMet, cnots-passed, sound-passed, length-passed, passed-twice, group-passed}
 use Rattle.fold.proofs.Positions.{folded-passed}

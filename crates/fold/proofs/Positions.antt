@@ -12,8 +12,8 @@ use Rattle.numbers.specs.Bits.{equal}
 use Rattle.numbers.proofs.Parity.{equal-yes, equal-no}
 use Rattle.circuit.specs.declared.Gate.{Gate}
 use Rattle.circuit.specs.declared.Gate.the-variants.{Cnot, Phase}
-use Rattle.circuit.specs.Masks.{ownMasks, masksAfter, masksFrom, met, metBy, sumMet}
-use Rattle.circuit.proofs.Masks.{masks-none, masks-cons, masks-append, sum-none, sum-cons, sum-append}
+use Rattle.running.specs.Masks.{ownMasks, masksAfter, masksFrom, met, metBy, sumMet}
+use Rattle.running.proofs.Masks.{masks-none, masks-cons, masks-append, sum-none, sum-cons, sum-append}
 use Rattle.fold.specs.Fold.{groupTotal, maskAt, earlier, kept, firstOnly, becomes, foldedFrom, folded}
 use Rattle.fold.specs.Totals.{left}
 use Rattle.fold.proofs.Passing.{cleared, takes, after, passed, same-function, cleared-own, cleared-other}

@@ -6,9 +6,9 @@ use mathlib.Core.List.{List, [], _∷_}
 use lib.ListN.{getD, set}
 use Rattle.circuit.specs.declared.Gate.{Gate}
 use Rattle.circuit.specs.declared.Gate.the-variants.{Cnot, Phase}
-use Rattle.circuit.specs.declared.Met.{Met}
-use Rattle.circuit.specs.declared.Met.the-variants.{Mixed, Mask}
-use Rattle.circuit.specs.Masks.{masksAfter, met, Walked}
+use Rattle.running.specs.declared.Met.{Met}
+use Rattle.running.specs.declared.Met.the-variants.{Mixed, Mask}
+use Rattle.running.specs.Masks.{masksAfter, met, Walked}
 use Rattle.fold.specs.Fold.{kept}
 use Rattle.fold.specs.Totals.{addedTo, found, takenFrom, left}
 

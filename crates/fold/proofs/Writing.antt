@@ -11,14 +11,14 @@ use lib.Seq.{getD-set-same, getD-set-other, set-out}
 use Rattle.refusal.specs.Checks.{passed as allPassed, outcome}
 use Rattle.circuit.specs.declared.Gate.{Gate}
 use Rattle.circuit.specs.declared.Gate.the-variants.{Cnot, Phase}
-use Rattle.circuit.specs.declared.Met.{Met}
-use Rattle.circuit.specs.declared.Met.the-variants.{Mixed, Mask}
+use Rattle.running.specs.declared.Met.{Met}
+use Rattle.running.specs.declared.Met.the-variants.{Mixed, Mask}
 use Rattle.circuit.specs.Gates.{gateBytes, bytesOf, putAt}
 use Rattle.circuit.specs.File.{wiresOf, countOf, gatesOf, fileChecks}
-use Rattle.circuit.specs.Masks.{ownMasks, powers, masksAfter, met}
+use Rattle.running.specs.Masks.{ownMasks, powers, masksAfter, met}
 use Rattle.circuit.proofs.Decoding.{Bytes, bytes-append}
 use Rattle.circuit.proofs.Files.{good-file, file-sound, gates-end}
-use Rattle.circuit.proofs.Masks.{powers-own, own-alike, length-after}
+use Rattle.running.proofs.Masks.{powers-own, own-alike, length-after}
 use Rattle.circuit.proofs.Writing.{put-fits, put-put, length-put}
 use Rattle.numbers.proofs.Lists.{length-list}
 use Rattle.fold.specs.Fold.{groupTotal, folded}

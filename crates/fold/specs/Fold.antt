@@ -3,12 +3,13 @@ use Prim.Native.Nat.{ℕ, zero, suc, _*_, _%_}
 use mathlib.Core.List.{List, [], _∷_, _++_}
 use lib.ListN.{length, getD, take}
 use Rattle.numbers.specs.Bits.{equal}
-use Rattle.refusal.specs.Checks.{Check, roomCheck}
-use Rattle.refusal.specs.Contract.{Said, values, saidOf}
+use Rattle.refusal.specs.Checks.{Check, outcome, roomCheck}
+use Rattle.refusal.specs.Contract.{Said, values, saidOf, Meets}
 use Rattle.circuit.specs.declared.Gate.{Gate}
 use Rattle.circuit.specs.declared.Gate.the-variants.{Cnot, Phase}
 use Rattle.circuit.specs.File.{wiresOf, gatesOf, fileChecks, fileOf}
-use Rattle.circuit.specs.Masks.{ownMasks, masksFrom, sumMet}
+use Rattle.running.specs.Run.{score}
+use Rattle.running.specs.Masks.{ownMasks, masksFrom, sumMet}
 use Rattle.fold.specs.declared.Folded.{Folded}
 use Rattle.fold.specs.declared.Folded.the-variants.{File, Refused}
 
@@ -66,3 +67,8 @@ foldChecks f room = fileChecks 0 f ++ roomCheck room (length (foldedFile f))
 abbrev pub foldedSays : Folded → Said
 foldedSays (File l before after) = values (l ∷ before ∷ after ∷ [])
 foldedSays (Refused r) = saidOf r
+
+-- the contract of fold
+abbrev pub Folds : List ℕ → List ℕ → Folded → List ℕ → Type 0
+Folds f out answer after =
+    Meets foldedSays (outcome (foldChecks f (length out))) (length (foldedFile f) ∷ score (gatesOf f) ∷ score (folded (wiresOf f) (gatesOf f)) ∷ []) (foldedFile f) out answer after

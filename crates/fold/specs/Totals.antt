@@ -9,8 +9,8 @@ use Rattle.numbers.specs.Bits.{indicator}
 use Rattle.numbers.specs.Sums.{sum}
 use Rattle.circuit.specs.declared.Gate.{Gate}
 use Rattle.circuit.specs.declared.Gate.the-variants.{Cnot, Phase}
-use Rattle.circuit.specs.declared.Met.{Met}
-use Rattle.circuit.specs.declared.Met.the-variants.{Mixed, Mask}
+use Rattle.running.specs.declared.Met.{Met}
+use Rattle.running.specs.declared.Met.the-variants.{Mixed, Mask}
 use Rattle.circuit.specs.File.{wiresOf, gatesOf}
 use Rattle.fold.specs.declared.writer.Left.{Left}
 use Rattle.fold.specs.declared.writer.Left.the-variants.{Stays, Goes}

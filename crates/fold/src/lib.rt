@@ -1,15 +1,13 @@
 // Document 01, "Running, counting, folding": phase gates met at the same mask become one.
-use circuit::Counted;
 use refusal::Refusal;
+use running::Counted;
 ghost use mathlib.Core.Path.{_≡_};
-ghost use mathlib.Core.List.{[], _∷_};
 ghost use lib.ListN.{length};
 ghost use Rattle.refusal.specs.Checks.{outcome, passed};
-ghost use Rattle.refusal.specs.Contract.{Meets};
-ghost use Rattle.circuit.specs.File.{wiresOf, countOf, gatesOf, fileChecks};
-ghost use Rattle.circuit.specs.Run.{cnots, score};
+ghost use Rattle.circuit.specs.File.{countOf, gatesOf, fileChecks};
+ghost use Rattle.running.specs.Run.{cnots, score};
 ghost use Rattle.fold.specs.declared.Folded.the-variants.{File};
-ghost use Rattle.fold.specs.Fold.{folded, foldedFile, foldChecks, foldedSays};
+ghost use Rattle.fold.specs.Fold.{Folds};
 
 mod totals;
 mod writer;
@@ -38,7 +36,7 @@ fn answer(length: usize, before: usize, after: usize) -> Folded
 fn fold_good(file: &[u8], gates: usize, mixing: usize, before: usize, out: &mut [u8]) -> Folded
     requires { ⌜ (outcome (fileChecks 0 (now file)) ≡ passed) × (gates ≡ countOf (now file)) ⌝ }
     requires { ⌜ (mixing ≡ cnots (gatesOf (now file))) × (before ≡ score (gatesOf (now file))) ⌝ }
-    ensures { λ r. ⌜ Meets foldedSays (outcome (foldChecks (now (file .entry)) (length (now (out .entry))))) (length (foldedFile (now (file .entry))) ∷ score (gatesOf (now (file .entry))) ∷ score (folded (wiresOf (now (file .entry))) (gatesOf (now (file .entry)))) ∷ []) (foldedFile (now (file .entry))) (now (out .entry)) r (now (out .exit)) ⌝ }
+    ensures { λ r. ⌜ Folds (now (file .entry)) (now (out .entry)) r (now (out .exit)) ⌝ }
 {
     let mut totals = totals::totals_of(file, gates);
     let after = totals::count_nonzero(&totals);
@@ -55,9 +53,9 @@ fn fold_good(file: &[u8], gates: usize, mixing: usize, before: usize, out: &mut 
 
 // The folded file at the front of out, or a refusal.
 pub fn fold(file: &[u8], out: &mut [u8]) -> Folded
-    ensures { λ r. ⌜ Meets foldedSays (outcome (foldChecks (now (file .entry)) (length (now (out .entry))))) (length (foldedFile (now (file .entry))) ∷ score (gatesOf (now (file .entry))) ∷ score (folded (wiresOf (now (file .entry))) (gatesOf (now (file .entry)))) ∷ []) (foldedFile (now (file .entry))) (now (out .entry)) r (now (out .exit)) ⌝ }
+    ensures { λ r. ⌜ Folds (now (file .entry)) (now (out .entry)) r (now (out .exit)) ⌝ }
 {
-    match circuit::count(file) {
+    match running::count(file) {
         Counted::Refused(refusal) => Folded::Refused(refusal),
         Counted::Gates {
             cnots,

@@ -1,13 +1,13 @@
 // The totals of the angles, one for each mask.
 use circuit::Decoded;
 use circuit::Gate;
-use circuit::Met;
+use running::Met;
 ghost use mathlib.Core.Path.{_≡_};
 ghost use Prim.Native.Nat.{_+_, _%_};
 ghost use lib.ListN.{getD, set, replicate};
 ghost use Rattle.refusal.specs.Checks.{outcome, passed};
 ghost use Rattle.circuit.specs.File.{countOf, fileChecks};
-ghost use Rattle.circuit.specs.Masks.{met, masksAfter};
+ghost use Rattle.running.specs.Masks.{met, masksAfter};
 ghost use Rattle.fold.specs.Totals.{addedTo, nonzero, nonzeros, Totals};
 
 // Adds an angle to a mask's total, wrapping; a mask that the row does not have changes nothing.
@@ -24,7 +24,7 @@ fn add_gate(gate: Gate, masks: &mut [u16], totals: &mut [u16])
     ensures { λ _. ⌜ now (masks .exit) ≡ masksAfter gate (now (masks .entry)) ⌝ }
     ensures { λ _. ⌜ now (totals .exit) ≡ addedTo (met gate (now (masks .entry))) (now (totals .entry)) ⌝ }
 {
-    match circuit::walk(masks, gate) {
+    match running::walk(masks, gate) {
         Met::Mixed => {}
         Met::Mask { mask, angle } => add(totals, mask as usize, angle),
     }
@@ -44,7 +44,7 @@ pub fn totals_of(file: &[u8], gates: usize) -> [u16; 1024]
 {
     let mut totals = zeros();
     let mut masks = [0u16; 10];
-    circuit::own_masks(&mut masks);
+    running::own_masks(&mut masks);
     let mut i: usize = 0;
     while i < gates {
         let Decoded::Good(placed) = circuit::gate_at(file, i) else {

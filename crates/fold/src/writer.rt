@@ -1,14 +1,14 @@
 // The folded gates, written.
 use circuit::Decoded;
 use circuit::Gate;
-use circuit::Met;
+use running::Met;
 ghost use mathlib.Core.Path.{_≡_};
 ghost use Prim.Native.Nat.{_+_, _≤_};
 ghost use lib.ListN.{length, getD, set};
 ghost use Rattle.refusal.specs.Checks.{outcome, passed};
 ghost use Rattle.circuit.specs.Gates.{bytesOf, putAt};
 ghost use Rattle.circuit.specs.File.{wiresOf, countOf, gatesOf, fileChecks};
-ghost use Rattle.circuit.specs.Masks.{met, masksAfter};
+ghost use Rattle.running.specs.Masks.{met, masksAfter};
 ghost use Rattle.fold.specs.Fold.{folded, kept};
 ghost use Rattle.fold.specs.Totals.{takenFrom, found, left, leaves, Totals};
 
@@ -48,7 +48,7 @@ fn fold_gate(gate: Gate, masks: &mut [u16], totals: &mut [u16]) -> Left
     ensures { λ _. ⌜ now (totals .exit) ≡ takenFrom (met gate (now (masks .entry))) (now (totals .entry)) ⌝ }
     ensures { λ r. ⌜ leaves r ≡ left (found (met gate (now (masks .entry))) (now (totals .entry))) gate ⌝ }
 {
-    let met = circuit::walk(masks, gate);
+    let met = running::walk(masks, gate);
     match gate {
         Gate::Cnot {
             control: _,
@@ -86,7 +86,7 @@ pub fn write_gates(file: &[u8], gates: usize, totals: &mut [u16], out: &mut [u8]
     ensures { λ _. ⌜ now (out .exit) ≡ putAt (bytesOf (folded (wiresOf (now (file .entry))) (gatesOf (now (file .entry))))) 8 (now (out .entry)) ⌝ }
 {
     let mut masks = [0u16; 10];
-    circuit::own_masks(&mut masks);
+    running::own_masks(&mut masks);
     let mut at: usize = 8;
     let mut i: usize = 0;
     while i < gates {

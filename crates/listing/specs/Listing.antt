@@ -3,8 +3,8 @@ use Prim.Native.Nat.{ℕ, _-_}
 use mathlib.Core.Bool.{Bool, true, false}
 use mathlib.Core.List.{List, [], _∷_, _++_}
 use lib.ListN.{length}
-use Rattle.refusal.specs.Checks.{Check, roomCheck}
-use Rattle.refusal.specs.Contract.{Said, values, saidOf}
+use Rattle.refusal.specs.Checks.{Check, outcome, roomCheck}
+use Rattle.refusal.specs.Contract.{Said, values, saidOf, Meets}
 use Rattle.circuit.specs.declared.Gate.{Gate}
 use Rattle.circuit.specs.declared.Gate.the-variants.{Cnot, Phase}
 use Rattle.circuit.specs.File.{wiresOf, gatesOf, fileChecks}
@@ -72,3 +72,8 @@ listChecks wrapped f room = fileChecks 0 f ++ roomCheck room (length (listingOfF
 abbrev pub listedSays : Listed → Said
 listedSays (Length l) = values (l ∷ [])
 listedSays (Refused r) = saidOf r
+
+-- the contract of list
+abbrev pub Lists : Bool → List ℕ → List ℕ → Listed → List ℕ → Type 0
+Lists wrapped f out answer after =
+    Meets listedSays (outcome (listChecks wrapped f (length out))) (length (listingOfFile wrapped f) ∷ []) (listingOfFile wrapped f) out answer after

@@ -8,15 +8,13 @@ mod lines;
 mod text;
 
 ghost use mathlib.Core.Path.{_≡_};
-ghost use mathlib.Core.List.{[], _∷_};
 ghost use Prim.Native.Nat.{_+_, _≤_};
 ghost use lib.ListN.{length};
 ghost use Rattle.refusal.specs.Checks.{outcome, passed};
-ghost use Rattle.refusal.specs.Contract.{Meets};
 ghost use Rattle.circuit.specs.Gates.{Sound, putAt};
 ghost use Rattle.circuit.specs.File.{wiresOf, countOf, gatesOf, fileChecks};
 ghost use Rattle.listing.specs.Text.{Wrote};
-ghost use Rattle.listing.specs.Listing.{headLines, wrapLine, gateLine, gateLines, listingOfFile, listChecks, listedSays};
+ghost use Rattle.listing.specs.Listing.{headLines, wrapLine, gateLine, gateLines, listingOfFile, Lists};
 
 pub enum Listed {
     Length(usize),
@@ -95,7 +93,7 @@ fn write(file: &[u8], wires: u8, gates: usize, wrapped: bool, out: &mut [u8])
 // The listing of a good file, or that there is no room for it.
 fn list_good(file: &[u8], wires: u8, gates: usize, wrapped: bool, out: &mut [u8]) -> Listed
     requires { ⌜ (outcome (fileChecks 0 (now file)) ≡ passed) × (gates ≡ countOf (now file)) × (wires ≡ wiresOf (now file)) ⌝ }
-    ensures { λ r. ⌜ Meets listedSays (outcome (listChecks wrapped (now (file .entry)) (length (now (out .entry))))) (length (listingOfFile wrapped (now (file .entry))) ∷ []) (listingOfFile wrapped (now (file .entry))) (now (out .entry)) r (now (out .exit)) ⌝ }
+    ensures { λ r. ⌜ Lists wrapped (now (file .entry)) (now (out .entry)) r (now (out .exit)) ⌝ }
 {
     let length = frame_length(wires, wrapped) + lines_length(file, gates);
     if out.len() < length {
@@ -107,7 +105,7 @@ fn list_good(file: &[u8], wires: u8, gates: usize, wrapped: bool, out: &mut [u8]
 
 // The text of a circuit at the front of out, or a refusal.
 pub fn list(file: &[u8], wrapped: bool, out: &mut [u8]) -> Listed
-    ensures { λ r. ⌜ Meets listedSays (outcome (listChecks wrapped (now (file .entry)) (length (now (out .entry))))) (length (listingOfFile wrapped (now (file .entry))) ∷ []) (listingOfFile wrapped (now (file .entry))) (now (out .entry)) r (now (out .exit)) ⌝ }
+    ensures { λ r. ⌜ Lists wrapped (now (file .entry)) (now (out .entry)) r (now (out .exit)) ⌝ }
 {
     match circuit::read(file, 0) {
         Reading::Refused(refusal) => Listed::Refused(refusal),

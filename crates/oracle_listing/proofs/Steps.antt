@@ -34,7 +34,7 @@ use Rattle.fold.specs.declared.Folded.{Folded}
 use Rattle.fold.specs.declared.Folded.the-variants.{File, Refused as FoldRefused}
 use Rattle.fold.specs.Fold.{foldedFile, foldedSays}
 use Rattle.circuit.specs.File.{wiresOf, gatesOf}
-use Rattle.circuit.specs.Run.{score}
+use Rattle.running.specs.Run.{score}
 use Rattle.circuit.proofs.Files.{length-file}
 use Rattle.fold.specs.Fold.{folded}
 use Rattle.fold.proofs.Answers.{Folds}

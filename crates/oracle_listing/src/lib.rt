@@ -9,7 +9,7 @@ ghost use Rattle.refusal.specs.Checks.{outcome, roomCheck};
 ghost use Rattle.refusal.specs.Contract.{Meets};
 ghost use Rattle.circuit.specs.File.{fileChecks};
 ghost use Rattle.listing.specs.Listing.{listedSays};
-ghost use Rattle.oracle_listing.specs.Oracle.{variablesOf, tableOf, foldedListing, oracleText, oracleChecks};
+ghost use Rattle.oracle_listing.specs.Oracle.{variablesOf, tableOf, foldedListing, ListsOracle};
 
 // Room for the largest built file, of 8 variables.
 fn built_room() -> [u8; 4096]
@@ -42,7 +42,7 @@ fn list_folded(file: &[u8], out: &mut [u8]) -> Listed
 
 // The wrapped listing of a table's oracle, built and folded, or a refusal.
 pub fn of_table(n: u8, table: &[u8], out: &mut [u8]) -> Listed
-    ensures { λ r. ⌜ Meets listedSays (outcome (oracleChecks n (now (table .entry)) (length (now (out .entry))))) (length (oracleText n (now (table .entry))) ∷ []) (oracleText n (now (table .entry))) (now (out .entry)) r (now (out .exit)) ⌝ }
+    ensures { λ r. ⌜ ListsOracle n (now (table .entry)) (now (out .entry)) r (now (out .exit)) ⌝ }
 {
     let mut built = built_room();
     match build::build(n, table, &mut built) {
@@ -53,7 +53,7 @@ pub fn of_table(n: u8, table: &[u8], out: &mut [u8]) -> Listed
 
 // The same of the byte n and then the table; an empty input is refused 1.
 pub fn oracle_listing(input: &[u8], out: &mut [u8]) -> Listed
-    ensures { λ r. ⌜ Meets listedSays (outcome (oracleChecks (variablesOf (now (input .entry))) (tableOf (now (input .entry))) (length (now (out .entry))))) (length (oracleText (variablesOf (now (input .entry))) (tableOf (now (input .entry)))) ∷ []) (oracleText (variablesOf (now (input .entry))) (tableOf (now (input .entry)))) (now (out .entry)) r (now (out .exit)) ⌝ }
+    ensures { λ r. ⌜ ListsOracle (variablesOf (now (input .entry))) (tableOf (now (input .entry))) (now (out .entry)) r (now (out .exit)) ⌝ }
 {
     if input.len() == 0 {
         return Listed::Refused(refusal::by(refusal::VARS));

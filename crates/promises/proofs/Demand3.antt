@@ -12,7 +12,7 @@ use Rattle.numbers.specs.Bits.{bit}
 use Rattle.refusal.specs.Checks.{passed, outcome}
 use Rattle.table.specs.Table.{tableChecks, valueAt}
 use Rattle.table.proofs.Tables.{good-variables}
-use Rattle.circuit.specs.Run.{endFrom, phaseFrom}
+use Rattle.running.specs.Run.{endFrom, phaseFrom}
 use Rattle.circuit.specs.File.{wiresOf, gatesOf, fileChecks}
 use Rattle.circuit.proofs.Decoding.{Bytes}
 use Rattle.circuit.proofs.FileBytes.{file-bytes}

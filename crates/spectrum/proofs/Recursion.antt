@@ -8,7 +8,7 @@ use lib.Seq.{length-take-le, length-front}
 use lib.Pow.{pow-pos}
 use lib.IntN.{ℤ}
 use borrow.Rule.Slice.PartMut.{putMid, same-len-mid}
-use Rattle.numbers.proofs.Parts.{row, second-part, both-parts}
+use Rattle.numbers.proofs.Parts.{second-part, both-parts}
 use Rattle.spectrum.specs.Transform.{transformed, mixed, Tame, Paired}
 use Rattle.spectrum.proofs.Halves.{halves, by-halves, length-transformed, transformed-one}
 use Rattle.spectrum.proofs.Bounds.{half-bits, tame-first, tame-second, halves-paired}

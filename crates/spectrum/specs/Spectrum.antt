@@ -1,12 +1,13 @@
 -- 01, "Spectrum": s_k, theta_k, and what the operation answers.
 use Prim.Native.Nat.{ℕ, _+_, _-_, _^_}
 use mathlib.Core.List.{List, [], _∷_, _++_}
+use lib.ListN.{length}
 use lib.IntN.{ℤ, pos, _*ℤ_}
 use Rattle.numbers.specs.Bits.{dot}
 use Rattle.numbers.specs.Sums.{sumℤ, list}
 use Rattle.numbers.specs.Turn.{wrap, flip}
-use Rattle.refusal.specs.Checks.{Check, roomCheck}
-use Rattle.refusal.specs.Contract.{Said, values, saidOf}
+use Rattle.refusal.specs.Checks.{Check, outcome, roomCheck}
+use Rattle.refusal.specs.Contract.{Said, values, saidOf, Meets}
 use Rattle.table.specs.Table.{tableChecks, valueAt}
 use Rattle.spectrum.specs.declared.Transformed.{Transformed}
 use Rattle.spectrum.specs.declared.Transformed.the-variants.{Entries, Refused}
@@ -34,3 +35,7 @@ spectrumChecks n t room = tableChecks n t ++ roomCheck room (2 ^ n)
 abbrev pub transformedSays : Transformed → Said
 transformedSays (Entries k) = values (k ∷ [])
 transformedSays (Refused r) = saidOf r
+
+-- the contract of spectrum
+abbrev pub Transforms : ℕ → List ℕ → List ℤ → Transformed → List ℤ → Type 0
+Transforms n t out answer after = Meets transformedSays (outcome (spectrumChecks n t (length out))) (2 ^ n ∷ []) (spectrumOf n t) out answer after

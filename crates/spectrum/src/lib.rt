@@ -2,16 +2,13 @@
 use refusal::Refusal;
 use table::Checked;
 ghost use mathlib.Core.Path.{_≡_};
-ghost use mathlib.Core.List.{[], _∷_};
 ghost use Prim.Native.Nat.{ℕ, _^_, _+_, _<_, _≤_};
 ghost use lib.ListN.{length, set};
 ghost use lib.IntN.{pos, natAbs, _+ℤ_, _-ℤ_};
 ghost use Rattle.numbers.specs.Sums.{list};
 ghost use Rattle.numbers.specs.Turn.{flip};
-ghost use Rattle.refusal.specs.Checks.{outcome};
-ghost use Rattle.refusal.specs.Contract.{Meets};
 ghost use Rattle.table.specs.Table.{valueAt};
-ghost use Rattle.spectrum.specs.Spectrum.{spectrumOf, spectrumChecks, transformedSays};
+ghost use Rattle.spectrum.specs.Spectrum.{Transforms};
 ghost use Rattle.spectrum.specs.Transform.{entry, transformed, mixed, Tame, Paired};
 
 pub enum Transformed {
@@ -21,7 +18,7 @@ pub enum Transformed {
 
 // Puts s_0 to s_(2^n - 1) at the front of out and answers 2^n.
 pub fn spectrum(n: u8, table: &[u8], out: &mut [i32]) -> Transformed
-    ensures { λ r. ⌜ Meets transformedSays (outcome (spectrumChecks n (now (table .entry)) (length (now (out .entry))))) (2 ^ n ∷ []) (spectrumOf n (now (table .entry))) (now (out .entry)) r (now (out .exit)) ⌝ }
+    ensures { λ r. ⌜ Transforms n (now (table .entry)) (now (out .entry)) r (now (out .exit)) ⌝ }
 {
     if let Checked::Refused(r) = table::check(n, table) {
         return Transformed::Refused(r);

@@ -4,8 +4,8 @@ use mathlib.Core.List.{List, [], _∷_}
 use lib.ListN.{length, getD}
 use Rattle.numbers.specs.Bits.{bit}
 use Rattle.refusal.specs.Names.{refusal, VARS, TABLE, PAD}
-use Rattle.refusal.specs.Checks.{Check, check, less, same, other}
-use Rattle.refusal.specs.Contract.{Said, values, saidOf}
+use Rattle.refusal.specs.Checks.{Check, check, less, same, other, outcome}
+use Rattle.refusal.specs.Contract.{Said, values, saidOf, Says}
 use Rattle.table.specs.declared.Checked.{Checked}
 use Rattle.table.specs.declared.Checked.the-variants.{Good, Refused}
 
@@ -33,3 +33,7 @@ tableChecks n t =
 abbrev pub checkedSays : Checked → Said
 checkedSays Good = values []
 checkedSays (Refused r) = saidOf r
+
+-- the contract of check
+abbrev pub Checks : ℕ → List ℕ → Checked → Type 0
+Checks n t answer = Says checkedSays (outcome (tableChecks n t)) [] answer

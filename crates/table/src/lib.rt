@@ -1,13 +1,10 @@
 // Document 01, "Numbers and conventions": packed truth tables, and refusals 1 to 3.
 use refusal::Refusal;
 ghost use mathlib.Core.Path.{_≡_};
-ghost use mathlib.Core.List.{[]};
 ghost use Prim.Native.Nat.{_^_, _-_, _≤_, _<_, min};
 ghost use lib.ListN.{getD};
 ghost use Rattle.numbers.specs.Bits.{bit};
-ghost use Rattle.refusal.specs.Checks.{outcome};
-ghost use Rattle.refusal.specs.Contract.{Says};
-ghost use Rattle.table.specs.Table.{valueAt, tableChecks, checkedSays};
+ghost use Rattle.table.specs.Table.{valueAt, Checks};
 
 pub enum Checked {
     Good,
@@ -16,7 +13,7 @@ pub enum Checked {
 
 // Whether `table` is the packed table of a function of n variables.
 pub fn check(n: u8, table: &[u8]) -> Checked
-    ensures { λ r. ⌜ Says checkedSays (outcome (tableChecks n (now (table .entry)))) [] r ⌝ }
+    ensures { λ r. ⌜ Checks n (now (table .entry)) r ⌝ }
 {
     if n == 0 {
         return Checked::Refused(refusal::by(refusal::VARS));

@@ -4,7 +4,7 @@ use mathlib.Core.Path.{_≡_, refl}
 use mathlib.Core.List.{List, [], _∷_}
 use Rattle.circuit.specs.declared.Gate.{Gate}
 use Rattle.circuit.specs.declared.Gate.the-variants.{Cnot, Phase}
-use Rattle.circuit.specs.Run.{endFrom, totalFrom}
+use Rattle.running.specs.Run.{endFrom, totalFrom}
 use Rattle.verdict.specs.declared.Verdict.{Verdict}
 use Rattle.verdict.specs.declared.Verdict.the-variants.{Same, Different}
 use Rattle.verdict.specs.Verdicts.{circuit, lowest, verdict}

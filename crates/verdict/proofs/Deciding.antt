@@ -18,11 +18,11 @@ use Rattle.numbers.proofs.Digits.{by-bits}
 use Rattle.refusal.specs.Checks.{passed, outcome}
 use Rattle.circuit.specs.Gates.{AllSound}
 use Rattle.circuit.specs.File.{wiresOf, gatesOf, fileChecks}
-use Rattle.circuit.specs.Run.{endFrom}
-use Rattle.circuit.specs.Masks.{powers}
+use Rattle.running.specs.Run.{endFrom}
+use Rattle.running.specs.Masks.{powers}
 use Rattle.circuit.proofs.Decoding.{Bytes}
 use Rattle.circuit.proofs.Files.{good-file, file-sound}
-use Rattle.circuit.proofs.Masks.{powers-own}
+use Rattle.running.proofs.Masks.{powers-own}
 use Rattle.verdict.specs.declared.Verdict.{Verdict}
 use Rattle.verdict.specs.declared.Verdict.the-variants.{Different}
 use Rattle.verdict.specs.Coefficients.{coefficient, difference, differences}

@@ -13,7 +13,7 @@ use Rattle.table.specs.Table.{tableChecks, valueAt}
 use Rattle.circuit.specs.declared.Gate.{Gate}
 use Rattle.circuit.specs.Gates.{AllSound}
 use Rattle.circuit.specs.File.{wiresOf, gatesOf, fileChecks}
-use Rattle.circuit.specs.Run.{endFrom}
+use Rattle.running.specs.Run.{endFrom}
 use Rattle.verdict.specs.declared.Verdict.{Verdict}
 use Rattle.verdict.specs.declared.Verdict.the-variants.{Same, Different}
 use Rattle.verdict.specs.declared.Compared.{Compared}

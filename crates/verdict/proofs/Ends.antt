@@ -13,10 +13,10 @@ use Rattle.numbers.proofs.Parity.{dot-comm}
 use Rattle.numbers.proofs.Wires.{dot-power}
 use Rattle.circuit.specs.declared.Gate.{Gate}
 use Rattle.circuit.specs.Gates.{AllSound}
-use Rattle.circuit.specs.Run.{endFrom}
-use Rattle.circuit.specs.Masks.{ownMasks, masksFrom}
-use Rattle.circuit.proofs.Masks.{own-alike, alike-from, wire-parity}
-use Rattle.circuit.proofs.Runs.{end-below, weight-below}
+use Rattle.running.specs.Run.{endFrom}
+use Rattle.running.specs.Masks.{ownMasks, masksFrom}
+use Rattle.running.proofs.Masks.{own-alike, alike-from, wire-parity}
+use Rattle.running.proofs.Runs.{end-below, weight-below}
 use Rattle.verdict.specs.Working.{entry, column}
 
 -- one wire more

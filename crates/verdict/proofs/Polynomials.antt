@@ -15,10 +15,10 @@ use Rattle.numbers.proofs.Angles.{≈-sum}
 use Rattle.numbers.proofs.Turns.{≈-of, ≈-mod, ≈-sym, ≈-mul, ≈-refl, _≈∙_}
 use Rattle.circuit.specs.declared.Gate.{Gate}
 use Rattle.circuit.specs.Gates.{AllSound}
-use Rattle.circuit.specs.Run.{totalFrom, phaseFrom}
-use Rattle.circuit.specs.Masks.{ownMasks, sumMet}
-use Rattle.circuit.proofs.Masks.{own-below, total-parity}
-use Rattle.circuit.proofs.Meetings.{sumMet-≈, sumMet-swap}
+use Rattle.running.specs.Run.{totalFrom, phaseFrom}
+use Rattle.running.specs.Masks.{ownMasks, sumMet}
+use Rattle.running.proofs.Masks.{own-below, total-parity}
+use Rattle.running.proofs.Meetings.{sumMet-≈, sumMet-swap}
 use Rattle.verdict.specs.Coefficients.{coefficient}
 use Rattle.verdict.specs.Working.{weightOf}
 use Rattle.verdict.proofs.Parities.{parity}

@@ -7,7 +7,7 @@ use Rattle.numbers.specs.Bits.{bit}
 use Rattle.table.specs.Table.{valueAt}
 use Rattle.circuit.specs.declared.Gate.{Gate}
 use Rattle.circuit.specs.Gates.{AllSound}
-use Rattle.circuit.proofs.Runs.{end-xor}
+use Rattle.running.proofs.Runs.{end-xor}
 use Rattle.verdict.specs.Coefficients.{coefficient, idealCoefficient}
 use Rattle.verdict.specs.Verdicts.{circuit, ideal}
 use Rattle.verdict.proofs.Polynomials.{phase-polynomial, coefficient-below}

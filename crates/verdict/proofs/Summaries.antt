@@ -16,15 +16,15 @@ use Rattle.numbers.proofs.Angles.{≈-sum}
 use Rattle.numbers.proofs.Turns.{≈-of, ≈-mod, ≈-mul, ≈-refl, _≈∙_}
 use Rattle.refusal.specs.Checks.{passed, outcome}
 use Rattle.circuit.specs.declared.Gate.{Gate}
-use Rattle.circuit.specs.declared.Met.{Met}
+use Rattle.running.specs.declared.Met.{Met}
 use Rattle.circuit.specs.Gates.{AllSound}
 use Rattle.circuit.specs.File.{wiresOf, gatesOf, fileChecks}
-use Rattle.circuit.specs.Run.{endFrom}
-use Rattle.circuit.specs.Masks.{ownMasks, powers, masksAfter, met, masksFrom, sumMet}
+use Rattle.running.specs.Run.{endFrom}
+use Rattle.running.specs.Masks.{ownMasks, powers, masksAfter, met, masksFrom, sumMet}
 use Rattle.circuit.proofs.Decoding.{Bytes}
 use Rattle.circuit.proofs.Files.{GoodFile, good-file, file-sound}
-use Rattle.circuit.proofs.Masks.{Alike, own-alike, met-alike, alike-after, own-below, powers-own}
-use Rattle.circuit.proofs.Meetings.{collected}
+use Rattle.running.proofs.Masks.{Alike, own-alike, met-alike, alike-after, own-below, powers-own}
+use Rattle.running.proofs.Meetings.{collected}
 use Rattle.verdict.specs.Coefficients.{coefficient}
 use Rattle.verdict.specs.Working.{entry, addMet, tallied, gathered, weightOf, weighed, column}
 use Rattle.verdict.proofs.Polynomials.{sumAt, coefficient-weight}

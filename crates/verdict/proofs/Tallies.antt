@@ -17,13 +17,13 @@ use Rattle.circuit.specs.declared.Gate.{Gate}
 use Rattle.circuit.specs.declared.Gate.the-variants.{Cnot, Phase}
 use Rattle.circuit.specs.declared.Placed.{Placed}
 use Rattle.circuit.specs.declared.Decoded.the-variants.{Good, Bad}
-use Rattle.circuit.specs.declared.Met.{Met}
-use Rattle.circuit.specs.declared.Met.the-variants.{Mixed, Mask}
+use Rattle.running.specs.declared.Met.{Met}
+use Rattle.running.specs.declared.Met.the-variants.{Mixed, Mask}
 use Rattle.circuit.specs.File.{countOf, gatesOf, gateAt, fileChecks}
-use Rattle.circuit.specs.Masks.{masksAfter, met, masksFrom, sumMet, Walked}
+use Rattle.running.specs.Masks.{masksAfter, met, masksFrom, sumMet, Walked}
 use Rattle.circuit.proofs.Decoding.{Bytes}
 use Rattle.circuit.proofs.Files.{good-file, gate-next, gate-not-bad, gates-end}
-use Rattle.circuit.proofs.Masks.{MasksBelow, after-below, masks-none, masks-cons}
+use Rattle.running.proofs.Masks.{MasksBelow, after-below, masks-none, masks-cons}
 use Rattle.verdict.specs.Working.{entry, addMet, tallied}
 
 -- one gate, as the code does it

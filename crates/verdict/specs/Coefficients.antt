@@ -5,7 +5,7 @@ use lib.Count.{ones}
 use Rattle.numbers.specs.Bits.{bit, subset}
 use Rattle.numbers.specs.Sums.{sum, list}
 use Rattle.circuit.specs.declared.Gate.{Gate}
-use Rattle.circuit.specs.Masks.{ownMasks, sumMet}
+use Rattle.running.specs.Masks.{ownMasks, sumMet}
 
 -- "(-2)^(|S|-1) times the sum of the angles of all phase gates whose mask contains S, modulo 65,536; at 0 it is 0": -2 is 65,534
 unfoldable pub coefficient : ℕ → List Gate → ℕ → ℕ

@@ -5,7 +5,7 @@ use mathlib.Core.List.{List}
 use lib.Dec.{ltb, eqb}
 use Rattle.numbers.specs.Bits.{bit}
 use Rattle.circuit.specs.declared.Gate.{Gate}
-use Rattle.circuit.specs.Run.{endFrom, phaseFrom}
+use Rattle.running.specs.Run.{endFrom, phaseFrom}
 use Rattle.verdict.specs.declared.Verdict.{Verdict}
 use Rattle.verdict.specs.declared.Verdict.the-variants.{Same, Different}
 use Rattle.verdict.specs.Coefficients.{difference}

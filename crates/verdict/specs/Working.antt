@@ -12,9 +12,9 @@ use Rattle.numbers.specs.Bits.{bit, subset}
 use Rattle.numbers.specs.Sums.{sum, sumOf, list}
 use Rattle.table.specs.Table.{valueAt}
 use Rattle.circuit.specs.declared.Gate.{Gate}
-use Rattle.circuit.specs.declared.Met.{Met}
-use Rattle.circuit.specs.declared.Met.the-variants.{Mixed, Mask}
-use Rattle.circuit.specs.Masks.{masksAfter, met}
+use Rattle.running.specs.declared.Met.{Met}
+use Rattle.running.specs.declared.Met.the-variants.{Mixed, Mask}
+use Rattle.running.specs.Masks.{masksAfter, met}
 use Rattle.verdict.specs.declared.Verdict.{Verdict}
 use Rattle.verdict.specs.declared.Verdict.the-variants.{Different}
 use Rattle.verdict.specs.Coefficients.{difference, differences}

@@ -55,6 +55,6 @@ pub fn decide_table(
     let size = work.len();
     summarise(file, gates, work, &mut firsts[..wires]);
     ideal(table, &mut row[..size]);
-    circuit::own_masks(&mut seconds[..wires]);
+    running::own_masks(&mut seconds[..wires]);
     settle(work, &row[..size], &firsts[..wires], &seconds[..wires])
 }

@@ -2,7 +2,7 @@
 use crate::gather::gather;
 use circuit::Decoded;
 use circuit::Gate;
-use circuit::Met;
+use running::Met;
 ghost use mathlib.Core.Path.{_≡_};
 ghost use Prim.Native.Nat.{_+_, _*_, _%_, _^_, _≤_, _<_};
 ghost use lib.Count.{ones};
@@ -10,8 +10,8 @@ ghost use lib.ListN.{length, set};
 ghost use Rattle.numbers.specs.Sums.{list};
 ghost use Rattle.refusal.specs.Checks.{outcome, passed};
 ghost use Rattle.circuit.specs.File.{wiresOf, countOf, gatesOf, fileChecks};
-ghost use Rattle.circuit.specs.Masks.{masksAfter, met, masksFrom};
-ghost use Rattle.circuit.specs.Run.{endFrom};
+ghost use Rattle.running.specs.Masks.{masksAfter, met, masksFrom};
+ghost use Rattle.running.specs.Run.{endFrom};
 ghost use Rattle.verdict.specs.Coefficients.{coefficient};
 ghost use Rattle.verdict.specs.Working.{entry, addMet, tallied, weightOf, weighed, column};
 
@@ -27,7 +27,7 @@ pub fn summarise(file: &[u8], gates: usize, coefficients: &mut [u16], ends: &mut
     ensures { λ _. ⌜ now (ends .exit) ≡ list (wiresOf (now (file .entry))) (λ i. endFrom (gatesOf (now (file .entry))) (2 ^ i)) ⌝ }
 {
     let mut masks = [0u16; 10];
-    circuit::own_masks(&mut masks);
+    running::own_masks(&mut masks);
     clear(coefficients);
     tally(file, gates, &mut masks, coefficients);
     gather(coefficients, true);
@@ -66,7 +66,7 @@ fn add_gate(gate: Gate, masks: &mut [u16], v: &mut [u16])
     ensures { λ _. ⌜ now (masks .exit) ≡ masksAfter gate (now (masks .entry)) ⌝ }
     ensures { λ _. ⌜ now (v .exit) ≡ addMet (met gate (now (masks .entry))) (now (v .entry)) ⌝ }
 {
-    match circuit::walk(masks, gate) {
+    match running::walk(masks, gate) {
         Met::Mixed => {}
         Met::Mask { mask, angle } => add_at(v, mask, angle),
     }

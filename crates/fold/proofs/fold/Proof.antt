@@ -2,7 +2,7 @@ use Prim.Native.Nat.{_+_}
 use native.Mathlib.Omega.{arith}
 use mathlib.Core.Path.{_≡_}
 use Rattle.circuit.specs.File.{countOf}
-use Rattle.circuit.proofs.CountAnswers.{Counts, count-answers, count-refuses, counts-all}
+use Rattle.running.proofs.CountAnswers.{Tallied, count-answers, count-refuses, counts-all}
 use Rattle.circuit.proofs.Files.{good-file}
 use Rattle.fold.proofs.Answers.{file-fails}
 use borrow.Author.Needs.{needs}
@@ -19,7 +19,7 @@ enum-known-cnots : tie.Need-enum-known-cnots
 enum-known-cnots c = search needs
 
 -- what the count's answer says
-counts : (c : tie.After-cnots) → Counts (c .before .before .before .before .before .args .file .now) (c .cnots .given .0 .0) (c .cnots .given .0 .1 .0) (c .cnots .given .0 .1 .1 .0)
+counts : (c : tie.After-cnots) → Tallied (c .before .before .before .before .before .args .file .now) (c .cnots .given .0 .0) (c .cnots .given .0 .1 .0) (c .cnots .given .0 .1 .1 .0)
 counts c =
     let got = c .before .before in
     let v = c .cnots .given in

@@ -1,5 +1,5 @@
 use mathlib.Core.Path.{refl}
-use Rattle.circuit.specs.declared.Met.the-variants.{Mixed, Mask}
+use Rattle.running.specs.declared.Met.the-variants.{Mixed, Mask}
 use Rattle.fold.proofs.Stepping.{adds}
 use borrow.Author.Needs.{needs}
 use Rattle.fold.proofs.totals.add_gate.Statement.{statement}

@@ -1,7 +1,7 @@
+use mathlib.Core.List.{[]}
 use Rattle.table.specs.Table.{tableChecks, checkedSays}
 use Rattle.table.proofs.Tables.{table-refused, table-passed}
 use mathlib.Core.Path.{_≡_, subst}
-use mathlib.Core.List.{[]}
 use Rattle.refusal.specs.Checks.{outcome, passed}
 use Rattle.refusal.specs.Contract.{Says}
 use Rattle.circuit.proofs.Files.{read-answers, read-refuses}

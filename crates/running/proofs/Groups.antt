@@ -1,0 +1,57 @@
+-- Phase gates by the mask that they meet: a sum over the gates, collected mask by mask.
+use Prim.Native.Nat.{ℕ, _+_, _*_, _^_}
+use native.Mathlib.Nat.{add-mul, zero-mul}
+use native.Mathlib.Omega.{arith}
+use mathlib.Core.Path.{_≡_, refl, sym, ap, ap₂, _∙_}
+use mathlib.Core.Bool.{not}
+use mathlib.Core.List.{List, [], _∷_}
+use lib.Dec.{eqb}
+use lib.ListN.{getD}
+use Rattle.numbers.specs.Bits.{indicator, equal}
+use Rattle.numbers.specs.Sums.{sum}
+use Rattle.numbers.proofs.Sums.{ℕ-adds, sumOf-ext, sumOf-none, sumOf-plus}
+use Rattle.numbers.proofs.Singles.{sum-single}
+use Rattle.circuit.specs.declared.Gate.{Gate}
+use Rattle.circuit.specs.declared.Gate.the-variants.{Cnot, Phase}
+use Rattle.running.specs.Run.{score}
+use Rattle.running.specs.Masks.{masksAfter, met, metBy, sumMet}
+use Rattle.running.proofs.Masks.{MasksBelow, after-below, sum-none, sum-cons}
+
+none : (n : ℕ) (f p : ℕ → ℕ) → ((m : ℕ) → f m ≡ 0) → sum n (λ m. f m * p m) ≡ 0
+none n f p e = sumOf-ext 0 _+_ n (λ m. f m * p m) (λ m. 0) (λ m l. ap (_* p m) (e m) ∙ zero-mul (p m)) ∙ sumOf-none 0 _+_ ℕ-adds n
+
+module _ (h p : ℕ → ℕ) (v : ℕ) where
+  -- one gate counts at its own mask only
+  one : (g : Gate) (ms : List ℕ) → MasksBelow v ms → metBy (λ k a. h a * p k) (met g ms) ≡ sum (2 ^ v) (λ m. metBy (λ k a. h a * equal k m) (met g ms) * p m)
+  one (Cnot c t) ms b = sym (none (2 ^ v) (λ m. 0) p (λ m. refl))
+  one (Phase i a) ms b =
+      sym (sumOf-ext 0 _+_ (2 ^ v) (λ m. h a * equal (getD ms i 0) m * p m) (λ m. equal (getD ms i 0) m * (h a * p m)) (λ m l. omega arith) ∙ sum-single (2 ^ v) (getD ms i 0) (λ m. h a * p m) (b i))
+
+  -- a sum over the gates is the sum over the masks of what each mask's gates come to
+  pub collect : (gs : List Gate) (ms : List ℕ) → MasksBelow v ms → sumMet (λ k a. h a * p k) gs ms ≡ sum (2 ^ v) (λ m. sumMet (λ k a. h a * equal k m) gs ms * p m)
+  collect [] ms b = sum-none (λ k a. h a * p k) ms ∙ sym (none (2 ^ v) (λ m. sumMet (λ k a. h a * equal k m) [] ms) p (λ m. sum-none (λ k a. h a * equal k m) ms))
+  collect (g ∷ gs) ms b =
+      sum-cons (λ k a. h a * p k) g gs ms ∙ ap₂ _+_ (one g ms b) (collect gs (masksAfter g ms) (after-below v g ms b))
+      ∙ sym (sumOf-plus 0 _+_ ℕ-adds (2 ^ v) (λ m. metBy (λ k a. h a * equal k m) (met g ms) * p m) (λ m. sumMet (λ k a. h a * equal k m) gs (masksAfter g ms) * p m))
+      ∙ sumOf-ext 0 _+_ (2 ^ v) (λ m. metBy (λ k a. h a * equal k m) (met g ms) * p m + sumMet (λ k a. h a * equal k m) gs (masksAfter g ms) * p m) (λ m. sumMet (λ k a. h a * equal k m) (g ∷ gs) ms * p m)
+      (λ m l. sym (ap (_* p m) (sum-cons (λ k a. h a * equal k m) g gs ms) ∙ add-mul (metBy (λ k a. h a * equal k m) (met g ms)) (sumMet (λ k a. h a * equal k m) gs (masksAfter g ms)) (p m)))
+
+-- where one sum is 0, so is another whose terms are 0 with its terms
+pub sum-vanishes : (f g : ℕ → ℕ → ℕ) → ((k a : ℕ) → f k a ≡ 0 → g k a ≡ 0) → (gs : List Gate) (ms : List ℕ) → sumMet f gs ms ≡ 0 → sumMet g gs ms ≡ 0
+sum-vanishes f g h [] ms e = sum-none g ms
+sum-vanishes f g h (Cnot c t ∷ gs) ms e =
+    let d = sum-cons f (Cnot c t) gs ms in
+    let r = sum-vanishes f g h gs (masksAfter (Cnot c t) ms) (omega arith) in
+    sum-cons g (Cnot c t) gs ms ∙ omega arith
+sum-vanishes f g h (Phase i a ∷ gs) ms e =
+    let d = sum-cons f (Phase i a) gs ms in
+    let r = sum-vanishes f g h gs ms (omega arith) in
+    let q = h (getD ms i 0) a (omega arith) in
+    sum-cons g (Phase i a) gs ms ∙ omega arith
+
+-- the score as such a sum, whatever the masks
+pub score-met : (gs : List Gate) (ms : List ℕ) → score gs ≡ sumMet (λ k a. indicator (not (eqb a 0)) * 1) gs ms
+unfolding score sumMet
+score-met [] ms = refl
+score-met (Cnot c t ∷ gs) ms = let r = score-met gs (masksAfter (Cnot c t) ms) in omega arith
+score-met (Phase i a ∷ gs) ms = let r = score-met gs ms in omega arith

@@ -1,0 +1,79 @@
+-- 01, "Running, counting": a run as a recursion over the gates, and the counts.
+use Prim.Native.Nat.{ℕ, _+_, _*_, _%_, _^_}
+use mathlib.Core.Bool.{not}
+use mathlib.Core.List.{List, [], _∷_, _++_}
+use lib.Dec.{eqb}
+use lib.Bits.{bitXor}
+use Rattle.numbers.specs.Bits.{bit, indicator}
+use Rattle.refusal.specs.Names.{refusal, STATE}
+use Rattle.refusal.specs.Checks.{Check, check, atLeast, outcome}
+use Rattle.refusal.specs.Contract.{Said, values, saidOf, Says}
+use Rattle.circuit.specs.declared.Gate.{Gate}
+use Rattle.circuit.specs.declared.Gate.the-variants.{Cnot, Phase}
+use Rattle.running.specs.declared.Ran.{Ran}
+use Rattle.running.specs.declared.Ran.the-variants.{End, Refused as RunRefused}
+use Rattle.running.specs.declared.Counted.{Counted}
+use Rattle.running.specs.declared.Counted.the-variants.{Gates, Refused as CountRefused}
+use Rattle.circuit.specs.File.{fileChecks, wiresOf, gatesOf}
+
+-- "CNOT: the target bit becomes target XOR control."
+abbrev pub stepped : Gate → ℕ → ℕ
+stepped (Cnot c t) s = bitXor s (bit s c * 2 ^ t)
+stepped (Phase i a) s = s
+
+-- "Phase: if the wire's bit is 1, the angle is added"
+abbrev pub added : Gate → ℕ → ℕ
+added (Cnot c t) s = 0
+added (Phase i a) s = a * bit s i
+
+-- the end state of a run from s
+unfoldable pub endFrom : List Gate → ℕ → ℕ
+endFrom [] s = s
+endFrom (g ∷ gs) s = endFrom gs (stepped g s)
+
+-- the total of a run from s, before it wraps
+unfoldable pub totalFrom : List Gate → ℕ → ℕ
+totalFrom [] s = 0
+totalFrom (g ∷ gs) s = added g s + totalFrom gs (stepped g s)
+
+-- "the angle is added, wrapping"
+abbrev pub phaseFrom : List Gate → ℕ → ℕ
+phaseFrom gs s = totalFrom gs s % 65536
+
+-- the file's rows, then "start not below 2^w"
+abbrev pub runChecks : List ℕ → ℕ → List Check
+runChecks f start = fileChecks 0 f ++ (check (atLeast start (2 ^ wiresOf f)) (refusal STATE) ∷ [])
+
+-- "A run answers the end state and the total."
+abbrev pub ranSays : Ran → Said
+ranSays (End s p) = values (s ∷ p ∷ [])
+ranSays (RunRefused r) = saidOf r
+
+-- the contract of run
+abbrev pub Runs : List ℕ → ℕ → Ran → Type 0
+Runs f start answer = Says ranSays (outcome (runChecks f start)) (endFrom (gatesOf f) start ∷ phaseFrom (gatesOf f) start ∷ []) answer
+
+-- "The count answers CNOTs, phase gates, and score."
+unfoldable pub cnots : List Gate → ℕ
+cnots [] = 0
+cnots (Cnot c t ∷ gs) = 1 + cnots gs
+cnots (Phase i a ∷ gs) = cnots gs
+
+unfoldable pub phases : List Gate → ℕ
+phases [] = 0
+phases (Cnot c t ∷ gs) = phases gs
+phases (Phase i a ∷ gs) = 1 + phases gs
+
+-- "The score is the number of phase gates whose angle isn't 0."
+unfoldable pub score : List Gate → ℕ
+score [] = 0
+score (Cnot c t ∷ gs) = score gs
+score (Phase i a ∷ gs) = indicator (not (eqb a 0)) + score gs
+
+abbrev pub countedSays : Counted → Said
+countedSays (Gates c p s) = values (c ∷ p ∷ s ∷ [])
+countedSays (CountRefused r) = saidOf r
+
+-- the contract of count
+abbrev pub Counts : List ℕ → Counted → Type 0
+Counts f answer = Says countedSays (outcome (fileChecks 0 f)) (cnots (gatesOf f) ∷ phases (gatesOf f) ∷ score (gatesOf f) ∷ []) answer

@@ -1,0 +1,86 @@
+// A run of a circuit on one starting state.
+use crate::Ran;
+use circuit::Decoded;
+use circuit::Gate;
+use circuit::Reading;
+use circuit::gate_at;
+use circuit::read;
+use numbers::power;
+use refusal::Refusal;
+ghost use mathlib.Core.Path.{_≡_};
+ghost use Rattle.refusal.specs.Checks.{outcome, passed};
+ghost use Rattle.numbers.specs.Bits.{bit};
+ghost use Rattle.running.specs.declared.Ran.the-variants.{End};
+ghost use Rattle.circuit.specs.Gates.{Sound};
+ghost use Rattle.circuit.specs.File.{countOf, gatesOf, fileChecks};
+ghost use Rattle.running.specs.Run.{stepped, added, endFrom, phaseFrom, Runs};
+
+// A wire's bit of a state.
+fn bit_of(state: u16, wire: u8) -> u16
+    ensures { λ r. ⌜ r ≡ bit state wire ⌝ }
+{
+    if wire < 16 { (state >> wire) % 2 } else { 0 }
+}
+
+// The state after a gate.
+fn step(gate: Gate, state: u16) -> u16
+    requires { ⌜ Sound 16 gate ⌝ }
+    ensures { λ r. ⌜ r ≡ stepped gate state ⌝ }
+{
+    match gate {
+        Gate::Cnot { control, target } => state ^ (bit_of(state, control) << target),
+        Gate::Phase { wire: _, angle: _ } => state,
+    }
+}
+
+// What a gate adds to the phase.
+fn turn(gate: Gate, state: u16) -> u16
+    ensures { λ r. ⌜ r ≡ added gate state ⌝ }
+{
+    match gate {
+        Gate::Cnot {
+            control: _,
+            target: _,
+        } => 0,
+        Gate::Phase { wire, angle } => { if bit_of(state, wire) == 1 { angle } else { 0 } }
+    }
+}
+
+// The run of a good file's gates.
+fn run_gates(file: &[u8], gates: usize, start: u16) -> Ran
+    requires { ⌜ (outcome (fileChecks 0 (now file)) ≡ passed) × (gates ≡ countOf (now file)) ⌝ }
+    ensures { λ r. ⌜ r ≡ End (endFrom (gatesOf (now (file .entry))) start) (phaseFrom (gatesOf (now (file .entry))) start) ⌝ }
+{
+    let mut state = start;
+    let mut phase: u16 = 0;
+    let mut i: usize = 0;
+    while i < gates {
+        let Decoded::Good(placed) = gate_at(file, i) else {
+            return Ran::End { state, phase };
+        };
+        let gate = placed.gate;
+        phase = std::num::wrapping_add_u16(phase, turn(gate, state));
+        state = step(gate, state);
+        i += 1;
+    }
+    Ran::End { state, phase }
+}
+
+// The end state and the total phase of a run from `start`, or a refusal.
+pub fn run(file: &[u8], start: u16) -> Ran
+    ensures { λ r. ⌜ Runs (now (file .entry)) start r ⌝ }
+{
+    match read(file, 0) {
+        Reading::Refused(refusal) => Ran::Refused(refusal),
+        Reading::Circuit { wires, gates } => {
+            if (start as usize) >= power(wires) {
+                return Ran::Refused(Refusal {
+                    number: refusal::STATE,
+                    side: 0,
+                    position: 0,
+                });
+            }
+            run_gates(file, gates, start)
+        }
+    }
+}
