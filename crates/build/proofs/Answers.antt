@@ -14,8 +14,8 @@ use Rattle.numbers.proofs.Lists.{getD-list}
 use Rattle.refusal.specs.declared.Refusal.{Refusal}
 use Rattle.refusal.specs.Names.{refusal, ROOM}
 use Rattle.refusal.specs.Checks.{passed, refused, outcome}
-use Rattle.refusal.specs.Contract.{values, Meets}
-use Rattle.refusal.proofs.Contracts.{Distinct, same-refusal, one-answer}
+use Rattle.refusal.specs.Contract.{values}
+use Rattle.refusal.proofs.Contracts.{Distinct, same-refusal}
 use Rattle.refusal.proofs.Rooms.{earlier-refused, room-refused, room-enough}
 use Rattle.table.specs.Table.{tableChecks, valueAt}
 use Rattle.spectrum.specs.Spectrum.{coefficient, spectrumOf, angle, theta}
@@ -24,15 +24,10 @@ use Rattle.spectrum.proofs.Angles.{coefficient-size}
 use Rattle.circuit.specs.Gates.{putAt}
 use Rattle.circuit.specs.File.{fileOf}
 use Rattle.circuit.proofs.Writing.{put-fits}
-use Rattle.build.specs.declared.Built.{Built}
 use Rattle.build.specs.declared.Built.the-variants.{Length, Refused}
-use Rattle.build.specs.Construction.{minus, parts, construction, builtFile, buildChecks, builtSays}
+use Rattle.build.specs.Construction.{minus, parts, construction, builtFile, builtSays, Builds}
 use Rattle.build.proofs.Circuits.{parts-same}
 use Rattle.build.proofs.Oracles.{built-long}
-
--- the contract of `build`
-abbrev pub Builds : ℕ → List ℕ → List ℕ → Built → List ℕ → Type 0
-Builds n t before answer after = Meets builtSays (outcome (buildChecks n t (length before))) (2 ^ (n + 4) ∷ []) (builtFile n t) before answer after
 
 module _ (n : ℕ) (t before : List ℕ) where
   pub table-fails : (r : Refusal) → outcome (tableChecks n t) ≡ refused r → Builds n t before (Refused r) before
@@ -98,13 +93,10 @@ module _ (n : ℕ) (t : List ℕ) (small : n ≤ 8) (row : List ℤ) (e : row �
         w ∙ ap (λ b. putAt b 0 before) file-is ∙ put-fits (builtFile n t) 0 before (omega (arith, built-long n t p))
         ∙ ap (λ (m : ℕ). builtFile n t ++ drop m before) (zero-add (length (builtFile n t)))
 
--- ---- one answer
+-- ---- no two answers say the same
 
 pub built-distinct : Distinct builtSays
 built-distinct (Length j) (Length k) e = ap Length (cc)
 built-distinct (Length j) (Refused r) e = let z : _≡_ {A = ℕ} 0 1 = cc in absurd (omega arith)
 built-distinct (Refused r) (Length k) e = let z : _≡_ {A = ℕ} 0 1 = cc in absurd (omega arith)
 built-distinct (Refused r) (Refused s) e = ap Refused (same-refusal r s e)
-
-pub one-build : (n : ℕ) (t before : List ℕ) (a b : Built) (x y : List ℕ) → Builds n t before a x → Builds n t before b y → (a ≡ b) × (x ≡ y)
-one-build n t before = one-answer builtSays (outcome (buildChecks n t (length before))) (2 ^ (n + 4) ∷ []) (builtFile n t) before built-distinct

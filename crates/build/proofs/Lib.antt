@@ -7,4 +7,3 @@ pub mod Pieces
 pub mod Assembly
 pub mod Oracles
 pub mod Answers
-pub mod Cases

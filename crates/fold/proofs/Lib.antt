@@ -4,7 +4,6 @@ pub mod Folding
 pub mod Scores
 pub mod Files
 pub mod Answers
-pub mod Cases
 mod Stepping
 mod Adding
 mod Writing

@@ -1,4 +1,4 @@
--- The operation's three ways out, and that it has one answer and one slice.
+-- The operation's three ways out, and that no two answers say the same.
 use Prim.Native.Nat.{ℕ, _<_, _≤_}
 use native.Mathlib.Nat.{zero-add}
 use mathlib.Core.Path.{_≡_, refl, ap, _∙_}
@@ -8,19 +8,14 @@ use lib.ListN.{length, drop}
 use Rattle.refusal.specs.declared.Refusal.{Refusal}
 use Rattle.refusal.specs.Names.{refusal, ROOM}
 use Rattle.refusal.specs.Checks.{passed, refused, outcome}
-use Rattle.refusal.specs.Contract.{values, Meets}
-use Rattle.refusal.proofs.Contracts.{Distinct, same-refusal, one-answer}
+use Rattle.refusal.specs.Contract.{values}
+use Rattle.refusal.proofs.Contracts.{Distinct, same-refusal}
 use Rattle.refusal.proofs.Rooms.{earlier-refused, room-refused, room-enough}
 use Rattle.circuit.specs.Gates.{putAt}
 use Rattle.circuit.specs.File.{fileChecks}
 use Rattle.circuit.proofs.Writing.{put-fits}
-use Rattle.listing.specs.declared.Listed.{Listed}
 use Rattle.listing.specs.declared.Listed.the-variants.{Length, Refused}
-use Rattle.listing.specs.Listing.{listingOfFile, listChecks, listedSays}
-
--- the contract of `list`
-abbrev pub Lists : Bool → List ℕ → List ℕ → Listed → List ℕ → Type 0
-Lists b f before answer after = Meets listedSays (outcome (listChecks b f (length before))) (length (listingOfFile b f) ∷ []) (listingOfFile b f) before answer after
+use Rattle.listing.specs.Listing.{listingOfFile, listedSays, Lists}
 
 module _ (b : Bool) (f before : List ℕ) where
   abbrev text : List ℕ
@@ -44,7 +39,3 @@ listed-distinct (Length l) (Length m) e = cc
 listed-distinct (Length l) (Refused r) e = cc
 listed-distinct (Refused r) (Length m) e = cc
 listed-distinct (Refused r) (Refused s) e = ap Refused (same-refusal r s e)
-
--- no second answer meets the contract, and no second slice
-pub one-listing : (b : Bool) (f before : List ℕ) (a c : Listed) (x y : List ℕ) → Lists b f before a x → Lists b f before c y → (a ≡ c) × (x ≡ y)
-one-listing b f before = one-answer listedSays (outcome (listChecks b f (length before))) (length (listingOfFile b f) ∷ []) (listingOfFile b f) before listed-distinct

@@ -2,9 +2,9 @@
 use Prim.Native.Nat.{ℕ, zero, suc, _+_, _-_, _*_, _/_, _%_, _^_, _<_}
 use native.Mathlib.Nat.{mod-lt, mod-eq-of-lt, zero-mul, one-mul, add-comm, mod-one}
 use native.Mathlib.Omega.{arith}
-use mathlib.Core.Path.{_≡_, refl, sym, ap, ap₂, _∙_}
+use mathlib.Core.Path.{_≡_, sym, ap, ap₂, _∙_}
 use lib.Bits.{bitXor, xor-self, xor-shifted, xor-comm}
-use lib.Pow.{pow-pos, field, mod-mod-pow, mod-pow-add, shr-lt}
+use lib.Pow.{pow-pos, field, mod-mod-pow, mod-pow-add}
 use Rattle.numbers.specs.Bits.{bit}
 use Rattle.numbers.specs.Sums.{sum, sumOf}
 use Rattle.numbers.proofs.Sums.{sumOf-ext}

@@ -7,7 +7,7 @@ use lib.Bits.{bitAnd, and-step, and-block, and-comm, and-lt}
 use lib.Count.{ones, onesIn, ones-step, ones-cat}
 use native.Mathlib.Decide.{ℕ-discrete}
 use borrow.Author.Tests.{eq-eqb, ne-eqb}
-use Rattle.numbers.specs.Bits.{bit, dot, indicator, equal, subset}
+use Rattle.numbers.specs.Bits.{dot, indicator, equal, subset}
 
 pub dot-below : (k x : ℕ) → dot k x < 2
 unfolding dot
@@ -73,6 +73,13 @@ equal-yes {a} {b} p = ap indicator (eq-eqb a b p)
 
 pub equal-no : {a b : ℕ} → (a ≡ b → ⊥) → equal a b ≡ 0
 equal-no {a} {b} n = ap indicator (ne-eqb a b n)
+
+pub equal-sym : (a b : ℕ) → equal a b ≡ equal b a
+equal-sym a b = by (ℕ-discrete a b)
+  where
+    by : Dec (a ≡ b) → equal a b ≡ equal b a
+    by (yes e) = equal-yes e ∙ sym (equal-yes (sym e))
+    by (no e) = equal-no e ∙ sym (equal-no (λ d. e (sym d)))
 
 -- numbers are equal where their lowest digits and their rests are
 equal-digits : (p q m r : ℕ) → m < 2 → r < 2 → equal (p * 2 + m) (q * 2 + r) ≡ equal p q * equal m r

@@ -1,16 +1,14 @@
 -- Sets of wires within one another, by the lowest bit and by the highest; and sums over an index that they pick from.
-use Prim.Native.Nat.{ℕ, zero, suc, _+_, _-_, _*_, _/_, _%_, _^_, _<_, _≤_}
-use native.Mathlib.Nat.{mul-add, mul-zero, mul-one, one-mul, zero-mul, add-zero, zero-add, mul-comm, mod-lt}
+use Prim.Native.Nat.{ℕ, zero, suc, _+_, _-_, _*_, _/_, _%_, _^_, _<_}
+use native.Mathlib.Nat.{mul-add, mul-zero, mul-one, one-mul, zero-mul, add-zero, zero-add}
 use native.Mathlib.Decide.{ℕ-discrete}
 use native.Mathlib.Omega.{arith}
 use mathlib.Core.Path.{_≡_, refl, sym, ap, ap₂, _∙_}
 use lib.Bits.{bitAnd, and-block, and-self, and-le-r, and-zero-l, and-lt}
-use lib.Pow.{pow-pos, high, low}
+use lib.Pow.{high, low}
 use Rattle.numbers.specs.Bits.{equal, subset}
 use Rattle.numbers.specs.Sums.{sum}
-use Rattle.numbers.specs.Turn.{_≈_}
-use Rattle.numbers.proofs.Sums.{ℕ-adds, sumOf-ext, sumOf-map, sumOf-pairs, sumOf-split}
-use Rattle.numbers.proofs.Turns.{≈-refl, ≈-add}
+use Rattle.numbers.proofs.Sums.{ℕ-adds, sumOf-map, sumOf-pairs, sumOf-split}
 use Rattle.numbers.proofs.Parity.{equal-yes, equal-no, subset-step}
 
 pub subset-self : (s : ℕ) → subset s s ≡ 1

@@ -3,7 +3,7 @@ use Prim.Native.Nat.{ℕ, _+_, _-_, _*_, _^_, _≤_}
 use native.Mathlib.Omega.{arith}
 use mathlib.Core.Path.{_≡_, refl, sym, ap, subst, _∙_}
 use mathlib.Core.Bool.{true}
-use mathlib.Core.Logic.{inl, inr}
+use mathlib.Core.Logic.{inl}
 use mathlib.Core.List.{List, [], _∷_, _++_}
 use lib.ListN.{length, take, drop, length-append, length-drop}
 use lib.Seq.{take-at, take-all}
@@ -11,66 +11,37 @@ use lib.Pow.{pow-mono}
 use Rattle.refusal.specs.declared.Refusal.{Refusal}
 use Rattle.refusal.specs.Names.{refusal, VARS}
 use Rattle.refusal.specs.Checks.{Check, Outcome, passed, refused, outcome, roomCheck}
-use Rattle.refusal.specs.Contract.{Said, values, saidOf, Meets}
-use Rattle.refusal.proofs.Outcomes.{reaches, then-refused, then-passed}
-use Rattle.refusal.proofs.Contracts.{says-refused, says-values, one-answer}
-use Rattle.refusal.proofs.Rooms.{earlier-refused}
-use Rattle.table.specs.Table.{tableChecks}
+use Rattle.refusal.specs.Contract.{Meets}
+use Rattle.refusal.proofs.Outcomes.{reaches, then-passed}
+use Rattle.refusal.proofs.Rooms.{earlier-refused, refused-earlier, answers-whole}
+use Rattle.table.specs.Table.{tableChecks, valueAt}
 use Rattle.table.proofs.Tables.{good-variables}
-use Rattle.circuit.specs.File.{fileChecks}
+use Rattle.circuit.specs.File.{fileChecks, wiresOf, gatesOf}
 use Rattle.circuit.proofs.Decoding.{Bytes}
 use Rattle.build.specs.declared.Built.{Built}
 use Rattle.build.specs.declared.Built.the-variants.{Length as BuiltLength, Refused as BuiltRefused}
-use Rattle.build.specs.Construction.{builtFile, builtSays}
-use Rattle.build.proofs.Answers.{Builds}
+use Rattle.build.specs.Construction.{builtFile, builtSays, construction, Builds}
 use Rattle.build.proofs.Oracles.{built-long, built-passes, built-gates, built-wires}
 use Rattle.build.proofs.Circuits.{sound-construction}
-use Rattle.build.specs.Construction.{construction}
-use Rattle.table.specs.Table.{valueAt}
 use Rattle.circuit.specs.Gates.{AllSound}
-use Rattle.circuit.proofs.Files.{list-written, wires-written}
+use Rattle.circuit.proofs.Files.{list-written, wires-written, length-file}
 use Rattle.listing.proofs.Pieces.{listing-short}
 use Rattle.fold.specs.declared.Folded.{Folded}
 use Rattle.fold.specs.declared.Folded.the-variants.{File, Refused as FoldRefused}
-use Rattle.fold.specs.Fold.{foldedFile, foldedSays}
-use Rattle.circuit.specs.File.{wiresOf, gatesOf}
+use Rattle.fold.specs.Fold.{foldedFile, foldedSays, folded, Folds}
 use Rattle.running.specs.Run.{score}
-use Rattle.circuit.proofs.Files.{length-file}
-use Rattle.fold.specs.Fold.{folded}
-use Rattle.fold.proofs.Answers.{Folds}
-use Rattle.fold.proofs.Folding.{folded-sound}
-use Rattle.fold.proofs.Folding.{folded-shorter}
+use Rattle.fold.proofs.Folding.{folded-sound, folded-shorter}
 use Rattle.fold.proofs.Files.{few-gates, folded-passes}
 use Rattle.listing.specs.declared.Listed.{Listed}
 use Rattle.listing.specs.declared.Listed.the-variants.{Refused}
-use Rattle.listing.specs.Listing.{listedSays}
-use Rattle.listing.proofs.Answers.{Lists, listed-distinct}
-use Rattle.oracle_listing.specs.Oracle.{variablesOf, tableOf, foldedListing, oracleText, oracleChecks}
+use Rattle.listing.specs.Listing.{listedSays, Lists}
+use Rattle.oracle_listing.specs.Oracle.{variablesOf, tableOf, foldedListing, oracleText, ListsOracle}
 
 -- a file stands at the front of a slice
 pub record Ready (cs : List Check) (file slice : List ℕ) (l : ℕ) : Type 0 where
   pub passes : outcome cs ≡ passed
   pub fits : l ≤ length slice
   pub front : take l slice ≡ file
-
-module _ (cs : List Check) (need room : ℕ) (enough : outcome cs ≡ passed → need ≤ room) where
-  room-for-all : outcome (cs ++ roomCheck room need) ≡ outcome cs
-  room-for-all = by (outcome cs) refl
-    where
-      by : (o : Outcome) → outcome cs ≡ o → outcome (cs ++ roomCheck room need) ≡ outcome cs
-      by (refused r) e = then-refused cs (roomCheck room need) r e ∙ sym e
-      by passed e = then-passed cs (roomCheck room need) e ∙ reaches (roomCheck room need) passed (inr (enough e, refl)) ∙ sym e
-
--- what the caller of such an operation knows
-module _ {Answer : Type 0} (said : Answer → Said) (cs : List Check) (need : ℕ) (vs result before : List ℕ) (enough : outcome cs ≡ passed → need ≤ length before) (a : Answer) (after : List ℕ)
-    (m : Meets said (outcome (cs ++ roomCheck (length before) need)) vs result before a after) where
-  refuses : (r : Refusal) → said a ≡ saidOf r → outcome cs ≡ refused r
-  refuses r e = sym (room-for-all cs need (length before) enough) ∙ says-refused (outcome (cs ++ roomCheck (length before) need)) vs r (sym e ∙ m .says)
-
-  answers : (ws : List ℕ) → said a ≡ values ws → (outcome cs ≡ passed) × (ws ≡ vs) × (after ≡ result ++ drop (length result) before)
-  answers ws e =
-      let v = says-values (outcome (cs ++ roomCheck (length before) need)) vs ws (sym e ∙ m .says) in
-      (sym (room-for-all cs need (length before) enough) ∙ v .0, v .1, rw (v .0) at (m .leaves))
 
 ready : (cs : List Check) (result before after : List ℕ) (l : ℕ) → outcome cs ≡ passed → l ≡ length result → after ≡ result ++ drop (length result) before → Ready cs result after l
 ready cs result before after l p e q =
@@ -90,12 +61,12 @@ module _ (f lent : List ℕ) (bytes : Bytes f) (long : 8200 ≡ length lent) (a 
 
   pub fold-refuses : (r : Refusal) → a ≡ FoldRefused r → outcome (fileChecks 0 f) ≡ refused r
   unfolding fold-values
-  fold-refuses r e = refuses foldedSays (fileChecks 0 f) (length (foldedFile f)) fold-values (foldedFile f) lent file-fits a after m r (ap foldedSays e)
+  fold-refuses r e = refused-earlier foldedSays (fileChecks 0 f) (length (foldedFile f)) fold-values (foldedFile f) lent file-fits a after m r (ap foldedSays e)
 
   pub fold-ready : (l b s : ℕ) → a ≡ File l b s → Ready (fileChecks 0 f) (foldedFile f) after l
   unfolding fold-values
   fold-ready l b s e =
-      let v = answers foldedSays (fileChecks 0 f) (length (foldedFile f)) fold-values (foldedFile f) lent file-fits a after m (l ∷ b ∷ s ∷ []) (ap foldedSays e) in
+      let v = answers-whole foldedSays (fileChecks 0 f) (length (foldedFile f)) fold-values (foldedFile f) lent file-fits a after m (l ∷ b ∷ s ∷ []) (ap foldedSays e) in
       ready (fileChecks 0 f) (foldedFile f) lent after l (v .0) (cc (v .1)) (v .2)
 
 -- building, with room for the largest
@@ -104,11 +75,11 @@ module _ (n : ℕ) (t lent : List ℕ) (long : 4096 ≡ length lent) (a : Built)
   built-fits e = omega (arith, pow-mono {i = n + 4} {j = 12} (omega (arith, good-variables n t e .1)))
 
   pub build-refuses : (r : Refusal) → a ≡ BuiltRefused r → outcome (tableChecks n t) ≡ refused r
-  build-refuses r e = refuses builtSays (tableChecks n t) (2 ^ (n + 4)) (2 ^ (n + 4) ∷ []) (builtFile n t) lent built-fits a after m r (ap builtSays e)
+  build-refuses r e = refused-earlier builtSays (tableChecks n t) (2 ^ (n + 4)) (2 ^ (n + 4) ∷ []) (builtFile n t) lent built-fits a after m r (ap builtSays e)
 
   pub build-ready : (l : ℕ) → a ≡ BuiltLength l → Ready (tableChecks n t) (builtFile n t) after l
   build-ready l e =
-      let v = answers builtSays (tableChecks n t) (2 ^ (n + 4)) (2 ^ (n + 4) ∷ []) (builtFile n t) lent built-fits a after m (l ∷ []) (ap builtSays e) in
+      let v = answers-whole builtSays (tableChecks n t) (2 ^ (n + 4)) (2 ^ (n + 4) ∷ []) (builtFile n t) lent built-fits a after m (l ∷ []) (ap builtSays e) in
       let k : l ≡ 2 ^ (n + 4) = cc (v .1) in
       ready (tableChecks n t) (builtFile n t) lent after l (v .0) (k ∙ sym (built-long n t (good-variables n t (v .0) .0))) (v .2)
 
@@ -122,9 +93,6 @@ passed-on cs ds text before a after p q m =
 
 abbrev pub ListsFolded : List ℕ → List ℕ → Listed → List ℕ → Type 0
 ListsFolded f before a after = Meets listedSays (outcome (fileChecks 0 f ++ roomCheck (length before) (length (foldedListing f)))) (length (foldedListing f) ∷ []) (foldedListing f) before a after
-
-abbrev pub ListsOracle : ℕ → List ℕ → List ℕ → Listed → List ℕ → Type 0
-ListsOracle n t before a after = Meets listedSays (outcome (oracleChecks n t (length before))) (length (oracleText n t) ∷ []) (oracleText n t) before a after
 
 pub folded-refused : (f before : List ℕ) (r : Refusal) → outcome (fileChecks 0 f) ≡ refused r → ListsFolded f before (Refused r) before
 folded-refused f before r e = earlier-refused listedSays (fileChecks 0 f) (length (foldedListing f)) (length (foldedListing f) ∷ []) (foldedListing f) before (Refused r) r refl e
@@ -154,10 +122,6 @@ empty-refused input e before r p =
 
 pub rest-of : (input : List ℕ) → take (length input - 1) (drop 1 input) ≡ tableOf input
 rest-of input = take-all (length input - 1) (drop 1 input) (omega (arith, length-drop 1 input))
-
--- no second answer meets the contract, and no second slice
-pub one-oracle : (n : ℕ) (t before : List ℕ) (a b : Listed) (x y : List ℕ) → ListsOracle n t before a x → ListsOracle n t before b y → (a ≡ b) × (x ≡ y)
-one-oracle n t before = one-answer listedSays (outcome (oracleChecks n t (length before))) (length (oracleText n t) ∷ []) (oracleText n t) before listed-distinct
 
 -- 65,536 bytes are room for every table's text
 pub room-for-text : (n : ℕ) (t : List ℕ) → outcome (tableChecks n t) ≡ passed → length (oracleText n t) ≤ 65536

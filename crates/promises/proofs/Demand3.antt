@@ -1,5 +1,5 @@
--- The third demand. Of any two well-formed circuits, whoever made them: `compare-same`, `compare-all-same` and `compare-named` of crate verdict (proofs/Demand.antt), and of a
--- circuit and a table `judge-same`, `judge-all-same` and `judge-named`. Here, of the circuits that this product makes.
+-- The third demand: of any two well-formed circuits, and of a circuit and a table, `compare-same`, `compare-all-same`, `compare-named`, `judge-same`, `judge-all-same` and `judge-named`
+-- of the file Verdicts; here, of the circuits that are built and folded.
 use Prim.Native.Nat.{ℕ, zero, suc, _+_, _*_, _/_, _%_, _^_, _<_, _≤_}
 use native.Mathlib.Nat.{mod-eq-of-lt, div-add-mod', mod-lt, add-comm, add-mul-mod-self-right, add-mul-div-right, div-eq-of-lt}
 use native.Mathlib.Omega.{arith}
@@ -27,7 +27,7 @@ use Rattle.verdict.specs.declared.Compared.the-variants.{Found}
 use Rattle.verdict.specs.Verdicts.{circuit, ideal, verdict}
 use Rattle.verdict.specs.Judging.{Compares, Judges}
 use Rattle.verdict.proofs.Lowest.{Agree}
-use Rattle.verdict.proofs.Demand.{compare-all-same, compare-passes, judge-gives, judge-same, judge-all-same, judge-passes, Parted, verdict-either}
+use Rattle.promises.proofs.Verdicts.{compare-all-same, compare-passes, judge-gives, judge-same, judge-all-same, judge-passes, Parted, verdict-either}
 use Rattle.promises.proofs.Tables.{tables-same}
 
 -- "A folded circuit is always the same as its original."
@@ -57,7 +57,7 @@ module _ (n : ℕ) (t : List ℕ) (good : outcome (tableChecks n t) ≡ passed) 
   few : n ≤ 8
   few = good-variables n t good .1
 
-  built-agrees : (s : ℕ) → s < 2 ^ (n + 1) → Agree (circuit (gatesOf (builtFile n t))) (ideal n (valueAt t)) s
+  pub built-agrees : (s : ℕ) → s < 2 ^ (n + 1) → Agree (circuit (gatesOf (builtFile n t))) (ideal n (valueAt t)) s
   built-agrees s h =
       let x = s % 2 ^ n in
       let y = bit s n in

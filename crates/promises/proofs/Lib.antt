@@ -1,2 +1,9 @@
 pub mod Tables
+pub mod Verdicts
+pub mod Demand1
+pub mod Demand2
 pub mod Demand3
+pub mod OneAnswer
+pub mod Cases
+pub mod Wrong
+pub mod FirstStates

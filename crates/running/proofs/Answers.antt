@@ -1,11 +1,8 @@
 -- Runs and counts, from what the reader says; and that no two answers say the same.
-use Prim.Native.Nat.{ℕ, _%_, _^_, _<_, _≤_}
-use native.Mathlib.Nat.{mod-eq-of-lt, lt-of-le-of-lt}
+use Prim.Native.Nat.{ℕ, _^_, _<_, _≤_}
 use mathlib.Core.Path.{_≡_, refl, ap, _∙_}
 use mathlib.Core.Logic.{inl, inr}
 use mathlib.Core.List.{List, [], _∷_}
-use lib.Dec.{lit<}
-use lib.Pow.{pow-mono}
 use Rattle.refusal.specs.declared.Refusal.{Refusal}
 use Rattle.refusal.specs.Names.{refusal, STATE}
 use Rattle.refusal.specs.Checks.{Check, check, atLeast, passed, refused, outcome}
@@ -37,10 +34,6 @@ ran-end f start r e p = rw (p, e)
 
 pub counted-gates : (f : List ℕ) (r : Counted) → outcome (fileChecks 0 f) ≡ passed → r ≡ Gates (cnots (gatesOf f)) (phases (gatesOf f)) (score (gatesOf f)) → Counts f r
 counted-gates f r e p = rw (p, e)
-
--- 2^w of a good file, as the code computes it
-pub small-power : (w p : ℕ) → w ≤ 10 → p ≡ 2 ^ w % 2 ^ 64 → p ≡ 2 ^ w
-small-power w p h e = e ∙ mod-eq-of-lt (lt-of-le-of-lt (pow-mono h) (lit< tt))
 
 pub ran-distinct : Distinct ranSays
 ran-distinct (End s p) (End t q) e = cc

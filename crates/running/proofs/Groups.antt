@@ -10,7 +10,8 @@ use lib.ListN.{getD}
 use Rattle.numbers.specs.Bits.{indicator, equal}
 use Rattle.numbers.specs.Sums.{sum}
 use Rattle.numbers.proofs.Sums.{ℕ-adds, sumOf-ext, sumOf-none, sumOf-plus}
-use Rattle.numbers.proofs.Singles.{sum-single}
+use Rattle.numbers.proofs.Parity.{equal-sym}
+use Rattle.numbers.proofs.Subsets.{sum-pick}
 use Rattle.circuit.specs.declared.Gate.{Gate}
 use Rattle.circuit.specs.declared.Gate.the-variants.{Cnot, Phase}
 use Rattle.running.specs.Run.{score}
@@ -25,7 +26,7 @@ module _ (h p : ℕ → ℕ) (v : ℕ) where
   one : (g : Gate) (ms : List ℕ) → MasksBelow v ms → metBy (λ k a. h a * p k) (met g ms) ≡ sum (2 ^ v) (λ m. metBy (λ k a. h a * equal k m) (met g ms) * p m)
   one (Cnot c t) ms b = sym (none (2 ^ v) (λ m. 0) p (λ m. refl))
   one (Phase i a) ms b =
-      sym (sumOf-ext 0 _+_ (2 ^ v) (λ m. h a * equal (getD ms i 0) m * p m) (λ m. equal (getD ms i 0) m * (h a * p m)) (λ m l. omega arith) ∙ sum-single (2 ^ v) (getD ms i 0) (λ m. h a * p m) (b i))
+      sym (sumOf-ext 0 _+_ (2 ^ v) (λ m. h a * equal (getD ms i 0) m * p m) (λ m. h a * p m * equal m (getD ms i 0)) (λ m l. let e : h a * equal (getD ms i 0) m * p m ≡ h a * p m * equal (getD ms i 0) m = omega arith in e ∙ ap (h a * p m *_) (equal-sym (getD ms i 0) m)) ∙ sum-pick (2 ^ v) (getD ms i 0) (λ m. h a * p m) (b i))
 
   -- a sum over the gates is the sum over the masks of what each mask's gates come to
   pub collect : (gs : List Gate) (ms : List ℕ) → MasksBelow v ms → sumMet (λ k a. h a * p k) gs ms ≡ sum (2 ^ v) (λ m. sumMet (λ k a. h a * equal k m) gs ms * p m)

@@ -7,4 +7,3 @@ pub mod Spectra
 pub mod Answers
 pub mod Inversion
 pub mod Angles
-pub mod Cases

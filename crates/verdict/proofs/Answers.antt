@@ -1,20 +1,17 @@
 -- The ways out of compare and judge, and that each has one answer and one work slice.
-use Prim.Native.Nat.{ℕ, _+_, _%_, _^_, _<_, _≤_}
-use native.Mathlib.Nat.{mod-eq-of-lt, lt-of-le-of-lt}
+use Prim.Native.Nat.{ℕ, _+_, _^_, _<_, _≤_}
 use native.Mathlib.Omega.{arith}
 use mathlib.Core.Path.{_≡_, refl, sym, ap, ap₂, _∙_}
 use mathlib.Core.Logic.{inl, inr}
 use mathlib.Core.List.{List, _++_}
-use lib.Dec.{lit<}
 use lib.ListN.{length, drop}
-use lib.Pow.{pow-mono}
 use Rattle.numbers.proofs.Lists.{length-list}
 use Rattle.refusal.specs.declared.Refusal.{Refusal}
 use Rattle.refusal.specs.Names.{refusal, UNLIKE, ROOM}
 use Rattle.refusal.specs.Checks.{Check, passed, refused, outcome}
 use Rattle.refusal.specs.Contract.{values, Meets}
 use Rattle.refusal.proofs.Outcomes.{reaches, then-refused, then-passed}
-use Rattle.refusal.proofs.Contracts.{Distinct, same-refusal, one-answer, meets-refused, meets-passed}
+use Rattle.refusal.proofs.Contracts.{Distinct, same-refusal, meets-refused, meets-passed}
 use Rattle.table.specs.Table.{tableChecks, valueAt}
 use Rattle.circuit.specs.File.{wiresOf, gatesOf, fileChecks}
 use Rattle.verdict.specs.declared.Verdict.{Verdict}
@@ -23,7 +20,7 @@ use Rattle.verdict.specs.declared.Compared.{Compared}
 use Rattle.verdict.specs.declared.Compared.the-variants.{Found, Refused}
 use Rattle.verdict.specs.Coefficients.{coefficient, idealCoefficient, difference, differences}
 use Rattle.verdict.specs.Verdicts.{Side, circuit, ideal, verdict}
-use Rattle.verdict.specs.Judging.{verdictValues, comparedSays, workChecks, compareChecks, judgeChecks, Compares, Judges}
+use Rattle.verdict.specs.Judging.{verdictValues, comparedSays, workChecks, Compares, Judges}
 use Rattle.verdict.specs.Working.{Decided}
 
 -- two lists of checks on the inputs, then those on wires and work
@@ -65,10 +62,6 @@ module _ (w n size : ℕ) (e : n ≡ w) (es : size ≡ 2 ^ w) (a b : Side) (c d 
   decided-slice =
       ap₂ (λ (x : List ℕ) (k : ℕ). x ++ drop k before) (r .leaves ∙ ap (λ (k : ℕ). differences k (c k) (d k)) e) (es ∙ sym (length-list (2 ^ w) (λ s. difference (c w s) (d w s))))
 
--- 2^w of a good file, as the code computes it
-pub work-size : (w p : ℕ) → w ≤ 10 → p ≡ 2 ^ w % 2 ^ 64 → p ≡ 2 ^ w
-work-size w p h e = e ∙ mod-eq-of-lt (lt-of-le-of-lt (pow-mono h) (lit< tt))
-
 pub verdict-distinct : (x y : Verdict) → verdictValues x ≡ verdictValues y → x ≡ y
 verdict-distinct Same Same e = refl
 verdict-distinct Same (Different s a b p) e = cc
@@ -80,17 +73,6 @@ compared-distinct (Found x) (Found y) e = ap Found (verdict-distinct x y (cc))
 compared-distinct (Found x) (Refused s) e = cc
 compared-distinct (Refused r) (Found y) e = cc
 compared-distinct (Refused r) (Refused s) e = ap Refused (same-refusal r s e)
-
--- no second answer meets the contract, and no second work slice
-pub one-comparison : (f g work : List ℕ) (a b : Compared) (x y : List ℕ) → Compares f g work a x → Compares f g work b y → (a ≡ b) × (x ≡ y)
-one-comparison f g work =
-    one-answer comparedSays (outcome (compareChecks f g (length work))) (verdictValues (verdict (wiresOf f) (circuit (gatesOf f)) (circuit (gatesOf g))))
-    (differences (wiresOf f) (coefficient (wiresOf f) (gatesOf f)) (coefficient (wiresOf f) (gatesOf g))) work compared-distinct
-
-pub one-judgement : (n : ℕ) (t f work : List ℕ) (a b : Compared) (x y : List ℕ) → Judges n t f work a x → Judges n t f work b y → (a ≡ b) × (x ≡ y)
-one-judgement n t f work =
-    one-answer comparedSays (outcome (judgeChecks n t f (length work))) (verdictValues (verdict (wiresOf f) (circuit (gatesOf f)) (ideal n (valueAt t))))
-    (differences (wiresOf f) (coefficient (wiresOf f) (gatesOf f)) (idealCoefficient n (valueAt t))) work compared-distinct
 
 module _ (f g before : List ℕ) where
   abbrev bothVerdict : List ℕ

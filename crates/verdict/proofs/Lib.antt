@@ -1,4 +1,3 @@
-pub mod Cases
 pub mod Parities
 pub mod Polynomials
 pub mod Ideals
@@ -15,4 +14,3 @@ mod Settling
 mod Deciding
 mod Turning
 pub mod Answers
-pub mod Demand

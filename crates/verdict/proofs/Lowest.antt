@@ -70,13 +70,17 @@ module _ (a b : Side) where
       let y : _≡_ {A = ℕ} 0 1 = cc in
       omega arith
 
+  -- the search finds the lowest start at which the sides part
+  pub lowest-part : (n : ℕ) → Lowest (Agree a b) n (lowest (part a b) n 0)
+  lowest-part = lowest-found (part a b) (Agree a b) agree differ
+
   module _ (w : ℕ) where
     start : ℕ
     start = lowest (part a b) (2 ^ w) 0
 
     found : Lowest (Agree a b) (2 ^ w) start
     unfolding start
-    found = lowest-found (part a b) (Agree a b) agree differ (2 ^ w)
+    found = lowest-part (2 ^ w)
 
     -- the verdict is that at the lowest start where the sides part, however it is found
     pub verdict-found : (p : ℕ) → Lowest (Agree a b) (2 ^ w) p → verdict w a b ≡ verdictAt w a b p

@@ -2,7 +2,8 @@ use Prim.Native.Nat.{ℕ}
 use mathlib.Core.Path.{subst}
 use mathlib.Core.List.{List}
 use Rattle.oracle_listing.specs.Oracle.{variablesOf}
-use Rattle.oracle_listing.proofs.Steps.{ListsOracle, empty-refused, rest-of}
+use Rattle.oracle_listing.specs.Oracle.{ListsOracle}
+use Rattle.oracle_listing.proofs.Steps.{empty-refused, rest-of}
 use borrow.Author.Needs.{needs}
 use Rattle.oracle_listing.proofs.oracle_listing.Statement.{statement}
 use Rattle.oracle_listing.proofs.oracle_listing.Tie as tie

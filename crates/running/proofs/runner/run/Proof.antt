@@ -8,7 +8,8 @@ use Rattle.circuit.specs.File.{wiresOf, gatesOf}
 use Rattle.running.specs.Run.{endFrom, phaseFrom, runChecks}
 use Rattle.circuit.proofs.Files.{Answered, read-answers, read-refuses}
 use Rattle.refusal.proofs.Contracts.{said-refused}
-use Rattle.running.proofs.Answers.{run-file-refused, run-state-refused, run-passes, ran-end, small-power}
+use Rattle.running.proofs.Answers.{run-file-refused, run-state-refused, run-passes, ran-end}
+use Rattle.numbers.proofs.Powers.{small-power}
 use borrow.Author.Needs.{needs}
 use Rattle.running.proofs.runner.run.Statement.{statement}
 use Rattle.running.proofs.runner.run.Tie as tie

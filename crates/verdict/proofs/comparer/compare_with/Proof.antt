@@ -3,7 +3,8 @@ use mathlib.Core.Path.{_≡_, sym, ap, _∙_}
 use lib.Seq.{length-take-le}
 use Rattle.circuit.specs.File.{wiresOf}
 use Rattle.circuit.proofs.Files.{Answered, read-answers, read-refuses, good-file, file-passes}
-use Rattle.verdict.proofs.Answers.{compare-second, compare-unlike, compare-room, compare-found, work-size}
+use Rattle.numbers.proofs.Powers.{small-power}
+use Rattle.verdict.proofs.Answers.{compare-second, compare-unlike, compare-room, compare-found}
 use native.Mathlib.Omega.{arith}
 use borrow.Author.Needs.{needs}
 use Rattle.verdict.proofs.comparer.compare_with.Statement.{statement}
@@ -24,7 +25,7 @@ like c =
 size : (c : tie.After-power) → c .power .result ≡ 2 ^ wiresOf (c .before .before .before .before .before .before .before .before .before .args .first .now)
 size c =
     let start = c .before .before .before .before .before .before .before .before .before in
-    let s = start in work-size (s .args .wires) (c .power .result) (omega (arith, s .pre .1, good-file 0 (s .args .first .now) (s .pre .0) .few)) (c .power .ensures) ∙ ap (2 ^_) (s .pre .1)
+    let s = start in small-power (s .args .wires) (c .power .result) (omega (arith, s .pre .1, good-file 0 (s .args .first .now) (s .pre .0) .few)) (c .power .ensures) ∙ ap (2 ^_) (s .pre .1)
 
 read-requires : tie.Need-read-requires
 read-requires c κs = search needs

@@ -4,7 +4,8 @@ use lib.Seq.{length-take-le}
 use Rattle.table.proofs.Tables.{good-variables}
 use Rattle.circuit.specs.File.{wiresOf}
 use Rattle.circuit.proofs.Files.{good-file}
-use Rattle.verdict.proofs.Answers.{judge-unlike, judge-room, judge-found, work-size}
+use Rattle.numbers.proofs.Powers.{small-power}
+use Rattle.verdict.proofs.Answers.{judge-unlike, judge-room, judge-found}
 use native.Mathlib.Omega.{arith}
 use borrow.Author.Needs.{needs}
 use Rattle.verdict.proofs.comparer.judge_circuit.Statement.{statement}
@@ -16,7 +17,7 @@ like c = sym (c .before .before .before .before .pre .1 .1) ∙ c .if1 .left
 size : (c : tie.After-power) → c .power .result ≡ 2 ^ wiresOf (c .before .before .before .before .before .args .file .now)
 size c =
     let start = c .before .before .before .before .before in
-    let s = start in work-size (s .args .wires) (c .power .result) (omega (arith, s .pre .1 .1, good-file 0 (s .args .file .now) (s .pre .1 .0) .few)) (c .power .ensures) ∙ ap (2 ^_) (s .pre .1 .1)
+    let s = start in small-power (s .args .wires) (c .power .result) (omega (arith, s .pre .1 .1, good-file 0 (s .args .file .now) (s .pre .1 .0) .few)) (c .power .ensures) ∙ ap (2 ^_) (s .pre .1 .1)
 
 add-if1 : tie.Need-add-if1
 add-if1 c = omega (arith, good-variables (c .before .before .before .args .n) (c .before .before .before .args .table .now) (c .before .before .before .pre .0) .1)

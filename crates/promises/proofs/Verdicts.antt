@@ -1,4 +1,4 @@
--- The tender's third demand, for every pair of files and every table that pass the checks: whoever made the file, the verdict is the same.
+-- The third demand of any two circuits, and of a circuit and a table: for every pair of files and every table that pass the checks, whoever made the file.
 use Prim.Native.Nat.{ℕ, _+_, _^_, _<_, _≤_}
 use mathlib.Core.Path.{_≡_, refl, sym, ap, _∙_}
 use mathlib.Core.Logic.{_⊎_, inl, inr}

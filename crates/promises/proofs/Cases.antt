@@ -1,0 +1,23 @@
+-- 01, "Cases on each side": one statement over all cases marked (p), by computing.
+use mathlib.Core.Path.{refl}
+use lib.Count.{ones, onesIn, trailingZeros}
+use Rattle.refusal.specs.Checks.{outcome}
+use Rattle.numbers.specs.Bits.{dot, subset}
+use Rattle.spectrum.specs.Spectrum.{spectrumOf}
+use Rattle.circuit.specs.Gates.{decoded, firstBad, gatesFrom, bytesOf}
+use Rattle.circuit.specs.File.{fileOf}
+use Rattle.running.specs.Run.{endFrom, totalFrom, cnots, phases, score}
+use Rattle.running.specs.Masks.{masksFrom, sumMet}
+use Rattle.build.specs.Gray.{turned, word}
+use Rattle.build.specs.Construction.{construction}
+use Rattle.fold.specs.Fold.{foldedFrom}
+use Rattle.verdict.specs.Coefficients.{coefficient, differences}
+use Rattle.verdict.specs.Verdicts.{lowest, verdict}
+use Rattle.listing.specs.Text.{decimalFrom}
+use Rattle.listing.specs.Fractions.{lowest as lowestTerms}
+use Rattle.listing.specs.Listing.{headLines, wrapLine, cnotLine, phaseLine, gateLines, listingOf}
+use Rattle.promises.specs.Cases.{AllHold, cases}
+
+pub cases-hold : AllHold cases
+unfolding cases outcome dot subset ones onesIn trailingZeros spectrumOf decoded firstBad gatesFrom bytesOf fileOf endFrom totalFrom cnots phases score masksFrom sumMet turned word construction foldedFrom coefficient differences lowest verdict decimalFrom lowestTerms headLines wrapLine cnotLine phaseLine gateLines listingOf
+cases-hold = (record { says = refl; leaves = refl }, (record { says = refl; leaves = refl }, (record { says = refl; leaves = refl }, (record { says = refl; leaves = refl }, (record { says = refl; leaves = refl }, (refl, (record { says = refl; leaves = refl }, (record { says = refl; leaves = refl }, (record { says = refl; leaves = refl }, (record { says = refl; leaves = refl }, (record { says = refl; leaves = refl }, (record { says = refl; leaves = refl }, (record { says = refl; leaves = refl }, (record { says = refl; leaves = refl }, tt))))))))))))))

@@ -1,0 +1,213 @@
+-- 01, "These programs are to be shown unacceptable", as theorems over the contracts, each with the input that shows it.
+use Prim.Native.Nat.{ℕ, zero, suc, _≤_}
+use native.Mathlib.Omega.{arith}
+use mathlib.Core.Path.{_≡_, refl, sym, ap, _∙_}
+use mathlib.Core.Bool.{false}
+use mathlib.Core.Logic.{inr}
+use mathlib.Core.List.{List, [], _∷_, _++_}
+use lib.ListN.{length, getD, replicate, length-replicate}
+use lib.Count.{ones}
+use lib.IntN.{pos}
+use Rattle.numbers.specs.Bits.{subset}
+use Rattle.refusal.specs.Checks.{Check, passed, outcome, roomCheck}
+use Rattle.refusal.proofs.Outcomes.{reaches, then-passed}
+use Rattle.refusal.specs.Contract.{Said, Says}
+use Rattle.refusal.proofs.Contracts.{says-refused}
+use Rattle.table.specs.Table.{tableChecks, checkedSays}
+use Rattle.spectrum.specs.Spectrum.{spectrumChecks, transformedSays}
+use Rattle.circuit.specs.declared.Gate.the-variants.{Cnot, Phase}
+use Rattle.circuit.specs.Gates.{decoded, firstBad, gatesFrom, bytesOf}
+use Rattle.circuit.specs.File.{fileOf, fileChecks, readingSays}
+use Rattle.running.specs.declared.Counted.the-variants.{Gates}
+use Rattle.running.specs.Run.{endFrom, totalFrom, cnots, phases, score, runChecks, ranSays, countedSays, Counts}
+use Rattle.running.specs.Masks.{masksFrom, sumMet}
+use Rattle.build.specs.declared.Built.the-variants.{Length as BuiltLength}
+use Rattle.build.specs.Construction.{buildChecks, builtSays, Builds}
+use Rattle.fold.specs.declared.Folded.the-variants.{File}
+use Rattle.fold.specs.Fold.{foldedFrom, foldChecks, foldedSays, Folds}
+use Rattle.verdict.specs.declared.Verdict.{Verdict}
+use Rattle.verdict.specs.declared.Verdict.the-variants.{Same, Different}
+use Rattle.verdict.specs.declared.Compared.the-variants.{Found}
+use Rattle.verdict.specs.Coefficients.{coefficient, idealCoefficient, differences}
+use Rattle.verdict.specs.Verdicts.{lowest, verdict}
+use Rattle.verdict.specs.Judging.{compareChecks, judgeChecks, comparedSays, Compares, Judges}
+use Rattle.listing.specs.Listing.{headLines, wrapLine, gateLines, listingOf, listChecks, listedSays}
+use Rattle.listing.specs.Text.{decimalFrom}
+use Rattle.oracle_listing.specs.Oracle.{oracleChecks}
+use Rattle.oracle_listing.proofs.Steps.{room-for-text}
+use Rattle.promises.specs.Demands.{Refuses}
+use Rattle.promises.specs.Cases.{builtHere, empty, cases}
+use Rattle.promises.specs.Wrong.{Unacceptable, checking, transforming, reading, running, counting, building, folding, comparing, judging, listing, listingOracle, RefusesEverything, AlwaysFinds, LeavesBuffer, Copies, firstMask, firstGroup, FoldsFirstGroup, AlwaysScores}
+use Rattle.promises.proofs.OneAnswer.{one-count, one-build, one-fold, one-comparison, one-judgement}
+use Rattle.promises.proofs.Cases.{cases-hold}
+
+-- no program that goes wrong at every input in such a way meets its contract at every input
+pub no-program : {Input Answer Entry : Type 0} (Contract Wrong : Input → Answer → List Entry → Type 0) → Unacceptable Contract Wrong
+    → (program : Input → Answer × List Entry) → ((i : Input) → Wrong i (program i .0) (program i .1)) → ((i : Input) → Contract i (program i .0) (program i .1)) → ⊥
+no-program Contract Wrong u program wrong meets = u .fails (program (u .input) .0) (program (u .input) .1) (wrong (u .input)) (meets (u .input))
+
+-- ---- refuses everything
+
+-- an input that passes every check is not refused
+never : {Answer : Type 0} (said : Answer → Said) (checks : List Check) (vs : List ℕ) (a : Answer) → outcome checks ≡ passed → Says said (outcome checks) vs a → Refuses said a → ⊥
+never said checks vs a p m r = let e = sym p ∙ says-refused (outcome checks) vs (r .0) (sym (r .1) ∙ m) in let z : _≡_ {A = ℕ} 0 1 = cc in omega arith
+
+one-variable : outcome (tableChecks 1 (2 ∷ [])) ≡ passed
+unfolding outcome
+one-variable = refl
+
+room-passes : (cs : List Check) (room need : ℕ) → outcome cs ≡ passed → need ≤ room → outcome (cs ++ roomCheck room need) ≡ passed
+room-passes cs room need e h = then-passed cs (roomCheck room need) e ∙ reaches (roomCheck room need) passed (inr (h, refl))
+
+-- by the table 02 of one variable, the empty circuit on 2 wires, and a slice with room
+pub check-refusing : Unacceptable checking (RefusesEverything checkedSays)
+unfolding outcome
+check-refusing = record { input = (1, 2 ∷ []); fails = λ a x r m. never checkedSays (tableChecks 1 (2 ∷ [])) _ a refl m r }
+
+pub spectrum-refusing : Unacceptable transforming (RefusesEverything transformedSays)
+unfolding outcome
+spectrum-refusing = record { input = (1, 2 ∷ [], replicate 2 (pos 0)); fails = λ a x r m. never transformedSays (spectrumChecks 1 (2 ∷ []) 2) _ a refl (m .says) r }
+
+pub read-refusing : Unacceptable reading (RefusesEverything readingSays)
+unfolding outcome fileOf bytesOf firstBad
+read-refusing = record { input = (0, empty); fails = λ a x r m. never readingSays (fileChecks 0 empty) _ a refl m r }
+
+pub run-refusing : Unacceptable running (RefusesEverything ranSays)
+unfolding outcome fileOf bytesOf firstBad
+run-refusing = record { input = (empty, 0); fails = λ a x r m. never ranSays (runChecks empty 0) _ a refl m r }
+
+pub count-refusing : Unacceptable counting (RefusesEverything countedSays)
+unfolding outcome fileOf bytesOf firstBad
+count-refusing = record { input = empty; fails = λ a x r m. never countedSays (fileChecks 0 empty) _ a refl m r }
+
+pub build-refusing : Unacceptable building (RefusesEverything builtSays)
+unfolding outcome
+build-refusing = record { input = (1, 2 ∷ [], replicate 32 0); fails = λ a x r m. never builtSays (buildChecks 1 (2 ∷ []) 32) _ a refl (m .says) r }
+
+pub fold-refusing : Unacceptable folding (RefusesEverything foldedSays)
+unfolding outcome fileOf bytesOf firstBad gatesFrom foldedFrom
+fold-refusing = record { input = (empty, replicate 8 0); fails = λ a x r m. never foldedSays (foldChecks empty 8) _ a refl (m .says) r }
+
+pub compare-refusing : Unacceptable comparing (RefusesEverything comparedSays)
+unfolding outcome fileOf bytesOf firstBad
+compare-refusing = record { input = (empty, empty, replicate 4 0); fails = λ a x r m. never comparedSays (compareChecks empty empty 4) _ a refl (m .says) r }
+
+pub judge-refusing : Unacceptable judging (RefusesEverything comparedSays)
+unfolding outcome fileOf bytesOf firstBad
+judge-refusing = record { input = (1, 2 ∷ [], empty, replicate 4 0); fails = λ a x r m. never comparedSays (judgeChecks 1 (2 ∷ []) empty 4) _ a refl (m .says) r }
+
+pub list-refusing : Unacceptable listing (RefusesEverything listedSays)
+unfolding outcome fileOf bytesOf firstBad gatesFrom listingOf headLines wrapLine gateLines decimalFrom
+list-refusing = record { input = (false, empty, replicate 64 0); fails = λ a x r m. never listedSays (listChecks false empty 64) _ a refl (m .says) r }
+
+pub oracle-refusing : Unacceptable listingOracle (RefusesEverything listedSays)
+oracle-refusing = record {
+  input = (1, 2 ∷ [], replicate 65536 0);
+  fails = λ a x r m. never listedSays (oracleChecks 1 (2 ∷ []) (length {A = ℕ} (replicate 65536 0))) _ a (room-passes (tableChecks 1 (2 ∷ [])) _ _ one-variable (omega (arith, room-for-text 1 (2 ∷ []) one-variable, length-replicate {A = ℕ} 65536 0))) (m .says) r;
+}
+
+-- ---- a constant verdict
+
+same-file : Compares empty empty (replicate 4 0) (Found Same) (replicate 4 0)
+unfolding outcome fileOf bytesOf firstBad gatesFrom verdict lowest endFrom totalFrom differences coefficient sumMet ones
+same-file = record { says = refl; leaves = refl }
+
+-- "CNOT 0 to 1 differs at 1"
+one-cnot : List ℕ
+one-cnot = fileOf 2 (Cnot 0 1 ∷ [])
+
+cnot-differs : Compares one-cnot empty (replicate 4 0) (Found (Different 1 3 1 0)) (replicate 4 0)
+unfolding one-cnot cases
+cnot-differs = cases-hold .1 .1 .1 .1 .1 .1 .1 .1 .0
+
+-- Same fails where CNOT 0 to 1 meets the empty circuit; any Different fails where a circuit meets itself
+pub constant-verdict : (v : Verdict) → Unacceptable comparing (AlwaysFinds v)
+constant-verdict Same = record {
+  input = (one-cnot, empty, replicate 4 0);
+  fails = λ a x e m. let q = sym e ∙ one-comparison one-cnot empty (replicate 4 0) a _ x _ m cnot-differs .0 in let z : _≡_ {A = ℕ} 0 1 = cc in omega arith;
+}
+constant-verdict (Different s e f p) = record {
+  input = (empty, empty, replicate 4 0);
+  fails = λ a x d m. let q = sym d ∙ one-comparison empty empty (replicate 4 0) a _ x _ m same-file .0 in let z : _≡_ {A = ℕ} 0 1 = cc in omega arith;
+}
+
+-- the same of judge, by the table 02 of one variable: its own circuit is Same, the empty one Different
+judge-built : Judges 1 (2 ∷ []) builtHere (replicate 4 0) (Found Same) (replicate 4 0)
+unfolding outcome decoded firstBad gatesFrom verdict lowest endFrom totalFrom differences coefficient idealCoefficient sumMet subset ones
+judge-built = record { says = refl; leaves = refl }
+
+judge-empty : Judges 1 (2 ∷ []) empty (replicate 4 0) (Found (Different 3 3 3 32768)) (0 ∷ 0 ∷ 0 ∷ 32768 ∷ [])
+unfolding outcome fileOf bytesOf firstBad gatesFrom verdict lowest endFrom totalFrom differences coefficient idealCoefficient sumMet subset ones
+judge-empty = record { says = refl; leaves = refl }
+
+pub constant-judgement : (v : Verdict) → Unacceptable judging (AlwaysFinds v)
+constant-judgement Same = record {
+  input = (1, 2 ∷ [], empty, replicate 4 0);
+  fails = λ a x e m. let q = sym e ∙ one-judgement 1 (2 ∷ []) empty (replicate 4 0) a _ x _ m judge-empty .0 in let z : _≡_ {A = ℕ} 0 1 = cc in omega arith;
+}
+constant-judgement (Different s e f p) = record {
+  input = (1, 2 ∷ [], builtHere, replicate 4 0);
+  fails = λ a x d m. let q = sym d ∙ one-judgement 1 (2 ∷ []) builtHere (replicate 4 0) a _ x _ m judge-built .0 in let z : _≡_ {A = ℕ} 0 1 = cc in omega arith;
+}
+
+-- ---- leaves its buffer when building
+
+build-here : Builds 1 (2 ∷ []) (replicate 32 0) (BuiltLength 32) builtHere
+unfolding cases
+build-here = cases-hold .1 .1 .1 .1 .0
+
+pub leaves-buffer : Unacceptable building LeavesBuffer
+leaves-buffer = record {
+  input = (1, 2 ∷ [], replicate 32 0);
+  fails = λ a x e m. let q = sym e ∙ one-build 1 (2 ∷ []) (replicate 32 0) a _ x _ m build-here .1 in let z : _≡_ {A = ℕ} 0 0x50 = ap (λ l. getD l 0 0) q in omega arith;
+}
+
+-- ---- copies when folding, and folds the first group only
+
+-- wire 0 by 1 then by 65,535: the result has no gate, and a copy has two
+opposite : List ℕ
+opposite = fileOf 1 (Phase 0 1 ∷ Phase 0 65535 ∷ [])
+
+opposite-folds : Folds opposite (replicate 16 0) (File 8 2 0) (fileOf 1 [] ++ replicate 8 0)
+unfolding opposite outcome fileOf bytesOf decoded firstBad gatesFrom foldedFrom masksFrom sumMet score
+opposite-folds = record { says = refl; leaves = refl }
+
+pub copies : Unacceptable folding Copies
+unfolding opposite fileOf bytesOf
+copies = record {
+  input = (opposite, replicate 16 0);
+  fails = λ a x e m. let q = sym e ∙ one-fold opposite (replicate 16 0) a _ x _ m opposite-folds .1 in let z : _≡_ {A = ℕ} 2 0 = ap (λ l. getD l 8 0) q in omega arith;
+}
+
+-- two groups of two: 1 and 2 on wire 0, 3 and 4 on wire 1
+two-groups : List ℕ
+two-groups = fileOf 2 (Phase 0 1 ∷ Phase 0 2 ∷ Phase 1 3 ∷ Phase 1 4 ∷ [])
+
+two-groups-fold : Folds two-groups (replicate 24 0) (File 16 4 2) (fileOf 2 (Phase 0 3 ∷ Phase 1 7 ∷ []) ++ replicate 8 0)
+unfolding two-groups outcome fileOf bytesOf decoded firstBad gatesFrom foldedFrom masksFrom sumMet score
+two-groups-fold = record { says = refl; leaves = refl }
+
+pub first-group-only : Unacceptable folding FoldsFirstGroup
+unfolding two-groups fileOf bytesOf decoded gatesFrom foldedFrom masksFrom sumMet firstGroup firstMask
+first-group-only = record {
+  input = (two-groups, replicate 24 0);
+  fails = λ a x e m. let q = sym e ∙ one-fold two-groups (replicate 24 0) a _ x _ m two-groups-fold .1 in let z : _≡_ {A = ℕ} 3 2 = ap (λ l. getD l 7 0) q in omega arith;
+}
+
+-- ---- an invented score
+
+one-phase : List ℕ
+one-phase = fileOf 2 (Phase 0 1 ∷ [])
+
+none-counted : Counts empty (Gates 0 0 0)
+unfolding outcome fileOf bytesOf firstBad gatesFrom cnots phases score
+none-counted = refl
+
+one-counted : Counts one-phase (Gates 0 1 1)
+unfolding one-phase outcome fileOf bytesOf decoded firstBad gatesFrom cnots phases score
+one-counted = refl
+
+-- 0 fails for a circuit of one phase gate that turns, anything else for the empty circuit
+pub invented-score : (s : ℕ) → Unacceptable counting (AlwaysScores s)
+invented-score zero = record { input = one-phase; fails = λ a x e m. let q : Gates (e .0) (e .1) 0 ≡ Gates 0 1 1 = sym (e .2) ∙ one-count one-phase a _ m one-counted in let z : _≡_ {A = ℕ} 0 1 = cc in omega arith }
+invented-score (suc s) = record { input = empty; fails = λ a x e m. let q : Gates (e .0) (e .1) (suc s) ≡ Gates 0 0 0 = sym (e .2) ∙ one-count empty a _ m none-counted in let z : suc s ≡ 0 = cc in omega arith }

@@ -1,0 +1,86 @@
+-- 01, "Cases on each side": the cases marked (p), and the ten lines of "Listing". Each lends a slice that is just as long as the result.
+use Prim.Native.Nat.{ℕ}
+use mathlib.Core.List.{List, [], _∷_}
+use lib.ListN.{length, replicate}
+use lib.IntN.{ℤ, pos, negsuc}
+use Rattle.spectrum.specs.declared.Transformed.the-variants.{Entries}
+use Rattle.spectrum.specs.Spectrum.{Transforms}
+use Rattle.circuit.specs.declared.Gate.the-variants.{Cnot, Phase}
+use Rattle.circuit.specs.File.{fileOf}
+use Rattle.running.specs.declared.Counted.the-variants.{Gates}
+use Rattle.running.specs.Run.{Counts}
+use Rattle.build.specs.declared.Built.the-variants.{Length as BuiltLength}
+use Rattle.build.specs.Construction.{Builds}
+use Rattle.fold.specs.declared.Folded.the-variants.{File}
+use Rattle.fold.specs.Fold.{Folds}
+use Rattle.verdict.specs.declared.Verdict.{Verdict}
+use Rattle.verdict.specs.declared.Verdict.the-variants.{Same, Different}
+use Rattle.verdict.specs.declared.Compared.the-variants.{Found}
+use Rattle.verdict.specs.Judging.{Compares}
+use Rattle.listing.specs.declared.Listed.the-variants.{Length}
+use Rattle.listing.specs.Text.{ascii}
+use Rattle.oracle_listing.specs.Oracle.{variablesOf, tableOf, ListsOracle}
+
+pub data Case : Type 0 where
+  -- n, a table, its spectrum
+  spectrum : ℕ → List ℕ → List ℤ → Case
+  -- n, a table, the built file
+  built : ℕ → List ℕ → List ℕ → Case
+  -- a file, its CNOTs, phase gates and score
+  counted : List ℕ → ℕ → ℕ → ℕ → Case
+  -- a file, what it folds to, the scores before and after
+  folds : List ℕ → List ℕ → ℕ → ℕ → Case
+  -- two files, the verdict, the coefficients' differences
+  compared : List ℕ → List ℕ → Verdict → List ℕ → Case
+  -- the listing program's input, and what it prints
+  prints : List ℕ → List ℕ → Case
+
+abbrev pub zeros : {A : Type 0} → List A → List ℕ
+zeros l = replicate (length l) 0
+
+-- a case holds where its answer and its slice meet the operation's contract; by `NoSecond` nothing else then does
+abbrev pub Holds : Case → Type 0
+Holds (spectrum n t s) = Transforms n t (replicate (length s) (pos 0)) (Entries (length s)) s
+Holds (built n t f) = Builds n t (zeros f) (BuiltLength (length f)) f
+Holds (counted f c p s) = Counts f (Gates c p s)
+Holds (folds f g b a) = Folds f (zeros g) (File (length g) b a) g
+Holds (compared f g v d) = Compares f g (zeros d) (Found v) d
+Holds (prints input text) = ListsOracle (variablesOf input) (tableOf input) (zeros text) (Length (length text)) text
+
+abbrev pub AllHold : List Case → Type 0
+AllHold [] = Unit {0}
+AllHold (c ∷ cs) = Holds c × AllHold cs
+
+-- "Built, n 1, byte 02"
+abbrev pub builtHere : List ℕ
+builtHere =
+    0x50 ∷ 0x48 ∷ 0x47 ∷ 0x00 ∷ 0x01 ∷ 0x02 ∷ 0x00 ∷ 0x06 ∷ 0x02 ∷ 0x01 ∷ 0x40 ∷ 0x00 ∷ 0x02 ∷ 0x00 ∷ 0x40 ∷ 0x00 ∷ 0x02 ∷ 0x01 ∷ 0x00 ∷ 0x00 ∷ 0x01 ∷ 0x00
+    ∷ 0x01 ∷ 0x00 ∷ 0x02 ∷ 0x01 ∷ 0xC0 ∷ 0x00 ∷ 0x01 ∷ 0x00 ∷ 0x01 ∷ 0x00 ∷ []
+
+-- "the empty circuit on 2 wires"
+abbrev pub empty : List ℕ
+empty = fileOf 2 []
+
+-- "Phases of a on wires 0 and 1, CNOT 0 to 1, a on wire 1, the CNOT again"
+abbrev pub threefold : ℕ → List ℕ
+threefold a = fileOf 2 (Phase 0 a ∷ Phase 1 a ∷ Cnot 0 1 ∷ Phase 1 a ∷ Cnot 0 1 ∷ [])
+
+unfoldable pub cases : List Case
+cases =
+    spectrum 1 (0x00 ∷ []) (pos 2 ∷ pos 0 ∷ [])
+    ∷ spectrum 2 (0x08 ∷ []) (pos 2 ∷ pos 2 ∷ pos 2 ∷ negsuc 1 ∷ [])
+    ∷ spectrum 2 (0x06 ∷ []) (pos 0 ∷ pos 0 ∷ pos 0 ∷ pos 4 ∷ [])
+    ∷ spectrum 3 (0xE8 ∷ []) (pos 0 ∷ pos 4 ∷ pos 4 ∷ pos 0 ∷ pos 4 ∷ pos 0 ∷ pos 0 ∷ negsuc 3 ∷ [])
+    ∷ built 1 (0x02 ∷ []) builtHere
+    ∷ counted builtHere 2 4 3
+    ∷ folds (fileOf 1 (Phase 0 1 ∷ Phase 0 65535 ∷ [])) (fileOf 1 []) 2 0
+    ∷ folds (fileOf 2 (Phase 1 5 ∷ Cnot 0 1 ∷ Phase 1 7 ∷ Cnot 0 1 ∷ Phase 1 9 ∷ [])) (fileOf 2 (Phase 1 14 ∷ Cnot 0 1 ∷ Phase 1 7 ∷ Cnot 0 1 ∷ [])) 3 2
+    ∷ compared (fileOf 2 (Cnot 0 1 ∷ [])) empty (Different 1 3 1 0) (0 ∷ 0 ∷ 0 ∷ 0 ∷ [])
+    ∷ compared (fileOf 2 (Cnot 1 0 ∷ [])) empty (Different 2 3 2 0) (0 ∷ 0 ∷ 0 ∷ 0 ∷ [])
+    ∷ compared builtHere empty (Different 3 3 3 32768) (0 ∷ 0 ∷ 0 ∷ 32768 ∷ [])
+    ∷ compared (threefold 32768) empty Same (0 ∷ 0 ∷ 0 ∷ 0 ∷ [])
+    ∷ compared (threefold 16384) empty (Different 1 1 1 32768) (0 ∷ 32768 ∷ 32768 ∷ 32768 ∷ [])
+    ∷ prints (0x01 ∷ 0x02 ∷ [])
+    (ascii
+    "OPENQASM 2.0;\ninclude \"qelib1.inc\";\nqreg q[2];\nh q[1];\nu1(1*pi/2) q[1];\nu1(1*pi/2) q[0];\ncx q[0],q[1];\nu1(3*pi/2) q[1];\ncx q[0],q[1];\nh q[1];\n")
+    ∷ []

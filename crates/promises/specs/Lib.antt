@@ -1,0 +1,3 @@
+pub mod Demands
+pub mod Cases
+pub mod Wrong

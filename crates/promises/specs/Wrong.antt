@@ -1,0 +1,126 @@
+-- 01, "How far every promise reaches": "These programs are to be shown unacceptable". What each does wrong, and what showing it means.
+use Prim.Native.Nat.{ℕ, suc}
+use mathlib.Core.Path.{_≡_}
+use mathlib.Core.Bool.{Bool, cond}
+use mathlib.Core.List.{List, [], _∷_, _++_}
+use lib.Dec.{ltb, eqb}
+use lib.ListN.{length, getD, drop}
+use lib.IntN.{ℤ}
+use Rattle.refusal.specs.Contract.{Said}
+use Rattle.table.specs.declared.Checked.{Checked}
+use Rattle.table.specs.Table.{Checks}
+use Rattle.spectrum.specs.declared.Transformed.{Transformed}
+use Rattle.spectrum.specs.Spectrum.{Transforms}
+use Rattle.circuit.specs.declared.Reading.{Reading}
+use Rattle.circuit.specs.declared.Gate.{Gate}
+use Rattle.circuit.specs.declared.Gate.the-variants.{Cnot, Phase}
+use Rattle.circuit.specs.File.{wiresOf, gatesOf, fileOf, Reads}
+use Rattle.running.specs.declared.Ran.{Ran}
+use Rattle.running.specs.declared.Counted.{Counted}
+use Rattle.running.specs.declared.Counted.the-variants.{Gates}
+use Rattle.running.specs.Run.{Runs, Counts}
+use Rattle.running.specs.Masks.{ownMasks, masksAfter}
+use Rattle.build.specs.declared.Built.{Built}
+use Rattle.build.specs.Construction.{Builds}
+use Rattle.fold.specs.declared.Folded.{Folded}
+use Rattle.fold.specs.Fold.{maskAt, becomes, Folds}
+use Rattle.verdict.specs.declared.Verdict.{Verdict}
+use Rattle.verdict.specs.declared.Verdict.the-variants.{Different}
+use Rattle.verdict.specs.declared.Compared.{Compared}
+use Rattle.verdict.specs.declared.Compared.the-variants.{Found}
+use Rattle.verdict.specs.Coefficients.{difference}
+use Rattle.verdict.specs.Verdicts.{Side, circuit, part, lowest, differentIf}
+use Rattle.verdict.specs.Judging.{Compares, Judges}
+use Rattle.listing.specs.declared.Listed.{Listed}
+use Rattle.listing.specs.Listing.{Lists}
+use Rattle.oracle_listing.specs.Oracle.{ListsOracle}
+use Rattle.promises.specs.Demands.{Refuses}
+
+-- whatever goes wrong in this way does not meet the contract, at an input that is named
+pub record Unacceptable {Input Answer Entry : Type 0} (Contract Wrong : Input → Answer → List Entry → Type 0) : Type 0 where
+  pub input : Input
+  pub fails : (answer : Answer) (after : List Entry) → Wrong input answer after → Contract input answer after → ⊥
+
+-- the contracts, over all that a call is given
+abbrev pub checking : ℕ × List ℕ → Checked → List ℕ → Type 0
+checking i answer after = Checks (i .0) (i .1) answer
+
+abbrev pub transforming : ℕ × List ℕ × List ℤ → Transformed → List ℤ → Type 0
+transforming i = Transforms (i .0) (i .1) (i .2)
+
+abbrev pub reading : ℕ × List ℕ → Reading → List ℕ → Type 0
+reading i answer after = Reads (i .0) (i .1) answer
+
+abbrev pub running : List ℕ × ℕ → Ran → List ℕ → Type 0
+running i answer after = Runs (i .0) (i .1) answer
+
+abbrev pub counting : List ℕ → Counted → List ℕ → Type 0
+counting i answer after = Counts i answer
+
+abbrev pub building : ℕ × List ℕ × List ℕ → Built → List ℕ → Type 0
+building i = Builds (i .0) (i .1) (i .2)
+
+abbrev pub folding : List ℕ × List ℕ → Folded → List ℕ → Type 0
+folding i = Folds (i .0) (i .1)
+
+abbrev pub comparing : List ℕ × List ℕ × List ℕ → Compared → List ℕ → Type 0
+comparing i = Compares (i .0) (i .1) (i .2)
+
+abbrev pub judging : ℕ × List ℕ × List ℕ × List ℕ → Compared → List ℕ → Type 0
+judging i = Judges (i .0) (i .1) (i .2) (i .3)
+
+abbrev pub listing : Bool × List ℕ × List ℕ → Listed → List ℕ → Type 0
+listing i = Lists (i .0) (i .1) (i .2)
+
+abbrev pub listingOracle : ℕ × List ℕ × List ℕ → Listed → List ℕ → Type 0
+listingOracle i = ListsOracle (i .0) (i .1) (i .2)
+
+-- "one refusing everything"
+abbrev pub RefusesEverything : {Input Answer Entry : Type 0} → (Answer → Said) → Input → Answer → List Entry → Type 0
+RefusesEverything said input answer after = Refuses said answer
+
+-- "a constant verdict"
+abbrev pub AlwaysFinds : {Input : Type 0} → Verdict → Input → Compared → List ℕ → Type 0
+AlwaysFinds v input answer after = answer ≡ Found v
+
+-- "a builder that leaves its buffer": the inputs are n, the table and the buffer
+abbrev pub LeavesBuffer : {Answer : Type 0} → ℕ × List ℕ × List ℕ → Answer → List ℕ → Type 0
+LeavesBuffer input answer after = after ≡ input .2
+
+-- "a fold that copies": the inputs are the file and the buffer
+abbrev pub Copies : {Answer : Type 0} → List ℕ × List ℕ → Answer → List ℕ → Type 0
+Copies input answer after = after ≡ input .0 ++ drop (length (input .0)) (input .1)
+
+-- the mask at which the first phase gate is met
+unfoldable pub firstMask : List Gate → List ℕ → ℕ
+firstMask [] ms = 0
+firstMask (Cnot c t ∷ gs) ms = firstMask gs (masksAfter (Cnot c t) ms)
+firstMask (Phase i a ∷ gs) ms = getD ms i 0
+
+abbrev pub staysUnless : ℕ → List Gate → ℕ → Gate → List Gate
+staysUnless w gs p (Cnot c t) = Cnot c t ∷ []
+staysUnless w gs p (Phase i a) = cond (eqb (maskAt w gs p i) (firstMask gs (ownMasks w))) (becomes w gs p (Phase i a)) (Phase i a ∷ [])
+
+-- "a fold that treats the first group only": gates of other masks stay as they are
+unfoldable pub firstGroup : ℕ → List Gate → ℕ → List Gate → List Gate
+firstGroup w gs p [] = []
+firstGroup w gs p (g ∷ rest) = staysUnless w gs p g ++ firstGroup w gs (suc p) rest
+
+abbrev pub FoldsFirstGroup : {Answer : Type 0} → List ℕ × List ℕ → Answer → List ℕ → Type 0
+FoldsFirstGroup input answer after =
+    let file = fileOf (wiresOf (input .0)) (firstGroup (wiresOf (input .0)) (gatesOf (input .0)) 0 (gatesOf (input .0))) in
+    after ≡ file ++ drop (length file) (input .1)
+
+-- the verdict of the first k states alone
+abbrev pub verdictAmong : ℕ → Side → Side → Verdict
+verdictAmong k a b =
+    let x = lowest (part a b) k 0 in
+    differentIf (ltb x k) (Different x (a .end x) (b .end x) (difference (a .phase x) (b .phase x)))
+
+-- "a comparison that tries the first states only": k of them; the inputs are both files and the work slice
+abbrev pub TriesFirst : ℕ → List ℕ × List ℕ × List ℕ → Compared → List ℕ → Type 0
+TriesFirst k input answer after = answer ≡ Found (verdictAmong k (circuit (gatesOf (input .0))) (circuit (gatesOf (input .1))))
+
+-- "an invented score": whatever the file
+abbrev pub AlwaysScores : ℕ → List ℕ → Counted → List ℕ → Type 0
+AlwaysScores s input answer after = (c : ℕ) × (p : ℕ) × (answer ≡ Gates c p s)
