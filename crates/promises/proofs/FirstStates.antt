@@ -3,6 +3,7 @@ use Prim.Native.Nat.{ℕ, zero, suc, _*_, _%_, _^_, _<_, _≤_}
 use native.Mathlib.Decide.{decLt, ℕ-discrete}
 use native.Mathlib.Omega.{arith}
 use mathlib.Core.Path.{_≡_, refl, sym, ap, _∙_}
+use mathlib.Core.Bool.{cond}
 use mathlib.Core.List.{List, [], _∷_, _++_}
 use borrow.Author.Tests.{le-ltb}
 use lib.Dec.{ltb}
@@ -19,7 +20,7 @@ use Rattle.build.proofs.Oracles.{built-wires}
 use Rattle.verdict.specs.declared.Verdict.{Verdict}
 use Rattle.verdict.specs.declared.Verdict.the-variants.{Same}
 use Rattle.verdict.specs.declared.Compared.the-variants.{Found}
-use Rattle.verdict.specs.Verdicts.{circuit, differentIf}
+use Rattle.verdict.specs.Verdicts.{circuit}
 use Rattle.verdict.specs.Working.{Lowest}
 use Rattle.verdict.proofs.Lowest.{Agree, lowest-part}
 use Rattle.promises.proofs.Verdicts.{compare-same}
@@ -75,7 +76,7 @@ parts-last a =
     let e : _≡_ {A = ℕ} 32768 0 = sym (o .phases) ∙ a .phases ∙ nothing-does 511 .1 in
     omega arith
 
-past-same : (x k : ℕ) (v : Verdict) → k ≤ x → differentIf (ltb x k) v ≡ Same
+past-same : (x k : ℕ) (v : Verdict) → k ≤ x → cond (ltb x k) v Same ≡ Same
 past-same x k v h = rw (le-ltb x k h)
 
 -- the first k states agree, so their verdict is Same

@@ -29,7 +29,8 @@ use Rattle.verdict.specs.declared.Verdict.{Verdict}
 use Rattle.verdict.specs.declared.Verdict.the-variants.{Same, Different}
 use Rattle.verdict.specs.declared.Compared.the-variants.{Found}
 use Rattle.verdict.specs.Coefficients.{coefficient, idealCoefficient, differences}
-use Rattle.verdict.specs.Verdicts.{lowest, verdict}
+use Rattle.verdict.specs.Verdicts.{verdict}
+use Rattle.numbers.specs.Search.{least}
 use Rattle.verdict.specs.Judging.{compareChecks, judgeChecks, comparedSays, Compares, Judges}
 use Rattle.listing.specs.Listing.{headLines, wrapLine, gateLines, listingOf, listChecks, listedSays}
 use Rattle.listing.specs.Text.{decimalFrom}
@@ -109,7 +110,7 @@ oracle-refusing = record {
 -- ---- a constant verdict
 
 same-file : Compares empty empty (replicate 4 0) (Found Same) (replicate 4 0)
-unfolding outcome fileOf bytesOf firstBad gatesFrom verdict lowest endFrom totalFrom differences coefficient sumMet ones
+unfolding outcome fileOf bytesOf firstBad gatesFrom verdict least endFrom totalFrom differences coefficient sumMet ones
 same-file = record { says = refl; leaves = refl }
 
 -- "CNOT 0 to 1 differs at 1"
@@ -133,11 +134,11 @@ constant-verdict (Different s e f p) = record {
 
 -- the same of judge, by the table 02 of one variable: its own circuit is Same, the empty one Different
 judge-built : Judges 1 (2 ∷ []) builtHere (replicate 4 0) (Found Same) (replicate 4 0)
-unfolding outcome decoded firstBad gatesFrom verdict lowest endFrom totalFrom differences coefficient idealCoefficient sumMet subset ones
+unfolding outcome decoded firstBad gatesFrom verdict least endFrom totalFrom differences coefficient idealCoefficient sumMet subset ones
 judge-built = record { says = refl; leaves = refl }
 
 judge-empty : Judges 1 (2 ∷ []) empty (replicate 4 0) (Found (Different 3 3 3 32768)) (0 ∷ 0 ∷ 0 ∷ 32768 ∷ [])
-unfolding outcome fileOf bytesOf firstBad gatesFrom verdict lowest endFrom totalFrom differences coefficient idealCoefficient sumMet subset ones
+unfolding outcome fileOf bytesOf firstBad gatesFrom verdict least endFrom totalFrom differences coefficient idealCoefficient sumMet subset ones
 judge-empty = record { says = refl; leaves = refl }
 
 pub constant-judgement : (v : Verdict) → Unacceptable judging (AlwaysFinds v)

@@ -6,6 +6,7 @@ use mathlib.Core.List.{List, [], _∷_, _++_}
 use lib.Dec.{ltb, eqb}
 use lib.ListN.{length, getD, drop}
 use lib.IntN.{ℤ}
+use Rattle.numbers.specs.Search.{least}
 use Rattle.refusal.specs.Contract.{Said}
 use Rattle.table.specs.declared.Checked.{Checked}
 use Rattle.table.specs.Table.{Checks}
@@ -25,11 +26,11 @@ use Rattle.build.specs.Construction.{Builds}
 use Rattle.fold.specs.declared.Folded.{Folded}
 use Rattle.fold.specs.Fold.{maskAt, becomes, Folds}
 use Rattle.verdict.specs.declared.Verdict.{Verdict}
-use Rattle.verdict.specs.declared.Verdict.the-variants.{Different}
+use Rattle.verdict.specs.declared.Verdict.the-variants.{Same, Different}
 use Rattle.verdict.specs.declared.Compared.{Compared}
 use Rattle.verdict.specs.declared.Compared.the-variants.{Found}
 use Rattle.verdict.specs.Coefficients.{difference}
-use Rattle.verdict.specs.Verdicts.{Side, circuit, part, lowest, differentIf}
+use Rattle.verdict.specs.Verdicts.{Side, circuit, part}
 use Rattle.verdict.specs.Judging.{Compares, Judges}
 use Rattle.listing.specs.declared.Listed.{Listed}
 use Rattle.listing.specs.Listing.{Lists}
@@ -114,8 +115,8 @@ FoldsFirstGroup input answer after =
 -- the verdict of the first k states alone
 abbrev pub verdictAmong : ℕ → Side → Side → Verdict
 verdictAmong k a b =
-    let x = lowest (part a b) k 0 in
-    differentIf (ltb x k) (Different x (a .end x) (b .end x) (difference (a .phase x) (b .phase x)))
+    let x = least (part a b) k 0 in
+    cond (ltb x k) (Different x (a .end x) (b .end x) (difference (a .phase x) (b .phase x))) Same
 
 -- "a comparison that tries the first states only": k of them; the inputs are both files and the work slice
 abbrev pub TriesFirst : ℕ → List ℕ × List ℕ × List ℕ → Compared → List ℕ → Type 0

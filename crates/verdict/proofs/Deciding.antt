@@ -3,6 +3,7 @@ use Prim.Native.Nat.{ℕ, _*_, _^_, _<_, _≤_}
 use native.Mathlib.Decide.{decLt}
 use native.Mathlib.Omega.{arith}
 use mathlib.Core.Path.{_≡_, sym, ap, ap₂, subst, _∙_}
+use mathlib.Core.Bool.{cond}
 use mathlib.Core.List.{List, _++_}
 use lib.Bits.{bitXor}
 use lib.Dec.{ltb}
@@ -24,9 +25,9 @@ use Rattle.circuit.proofs.Decoding.{Bytes}
 use Rattle.circuit.proofs.Files.{good-file, file-sound}
 use Rattle.running.proofs.Masks.{powers-own}
 use Rattle.verdict.specs.declared.Verdict.{Verdict}
-use Rattle.verdict.specs.declared.Verdict.the-variants.{Different}
+use Rattle.verdict.specs.declared.Verdict.the-variants.{Same, Different}
 use Rattle.verdict.specs.Coefficients.{coefficient, difference, differences}
-use Rattle.verdict.specs.Verdicts.{Side, circuit, differentIf, verdictAt, verdict}
+use Rattle.verdict.specs.Verdicts.{Side, circuit, verdictAt, verdict}
 use Rattle.verdict.specs.Working.{entry, endOf, Lowest, Place, Settled, Decided}
 use Rattle.verdict.proofs.Lowest.{lowest-map, verdict-found}
 use Rattle.verdict.proofs.Scanning.{Summed, scan-finds, scan-phase}
@@ -90,10 +91,10 @@ module _ (w : ℕ) (a b : Side) (c d : ℕ → ℕ) (sa : Summed w a c) (sb : Su
     pub decided : answer ≡ verdict w a b
     unfolding p
     decided =
-        s .answers ∙ ap (λ (n : ℕ). differentIf (ltb p n) (Different p (endOf firsts p) (endOf seconds p) (difference (entry first p) (entry second p)))) long
+        s .answers ∙ ap (λ (n : ℕ). cond (ltb p n) (Different p (endOf firsts p) (endOf seconds p) (difference (entry first p) (entry second p))) Same) long
         ∙ by (decLt p (2 ^ w)) ∙ sym (verdict-found a b w p (scan-finds w a b c d sa sb p sides-place))
       where
-        by : Dec (p < 2 ^ w) → differentIf (ltb p (2 ^ w)) (Different p (endOf firsts p) (endOf seconds p) (difference (entry first p) (entry second p))) ≡ verdictAt w a b p
+        by : Dec (p < 2 ^ w) → cond (ltb p (2 ^ w)) (Different p (endOf firsts p) (endOf seconds p) (difference (entry first p) (entry second p))) Same ≡ verdictAt w a b p
         by (yes h) =
             let x : endOf firsts p ≡ a .end p = end-of w a c sa firsts p ea h in
             let y : endOf seconds p ≡ b .end p = end-of w b d sb seconds p eb h in

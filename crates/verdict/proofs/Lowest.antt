@@ -1,13 +1,15 @@
 -- The lowest number at which a property fails, and what a verdict says of every start.
-use Prim.Native.Nat.{ℕ, zero, suc, _+_, _^_, _<_, _≤_}
+use Prim.Native.Nat.{ℕ, _^_, _<_, _≤_}
 use native.Mathlib.Decide.{ℕ-discrete, decLt}
 use native.Mathlib.Omega.{arith}
-use mathlib.Core.Path.{_≡_, refl, sym, ap, subst, _∙_}
+use mathlib.Core.Path.{_≡_, sym, ap, subst, _∙_}
 use mathlib.Core.Bool.{Bool, true, false}
 use borrow.Author.Tests.{lt-ltb, le-ltb, eq-eqb, ne-eqb}
+use Rattle.numbers.specs.Search.{least}
+use Rattle.numbers.proofs.Search.{least-found}
 use Rattle.verdict.specs.declared.Verdict.the-variants.{Same, Different}
 use Rattle.verdict.specs.Coefficients.{difference}
-use Rattle.verdict.specs.Verdicts.{Side, part, first, lowest, verdictAt, verdict}
+use Rattle.verdict.specs.Verdicts.{Side, part, verdictAt, verdict}
 use Rattle.verdict.specs.Working.{Lowest}
 
 -- there is no second
@@ -25,30 +27,11 @@ lowest-map A B n p f g l =
     record { within = l .within; before = λ k h. f k (omega (arith, l .within)) (l .before k h); there = λ h b. l .there h (g p h b) }
 
 module _ (test : ℕ → Bool) where
-  record Search (n s p : ℕ) : Type 0 where
-    pub least : s ≤ p
-    pub most : p ≤ s + n
-    pub before : (k : ℕ) → s ≤ k → k < p → test k ≡ false
-    pub there : p < s + n → test p ≡ true
-
-  search : (n s : ℕ) → Search n s (lowest test n s)
-  unfolding lowest
-  search zero s = record { least = omega arith; most = omega arith; before = λ k a b. absurd (omega arith); there = λ h. absurd (omega arith) }
-  search (suc n) s = by (test s) refl (search n (suc s))
-    where
-      by : (b : Bool) → test s ≡ b → Search n (suc s) (lowest test n (suc s)) → Search (suc n) s (first b s (lowest test n (suc s)))
-      by true e r = record { least = omega arith; most = omega arith; before = λ k a b. absurd (omega arith); there = λ h. e }
-      by false e r = record { least = omega (arith, r .least); most = omega (arith, r .most); before = λ k a b. at k a b (ℕ-discrete k s); there = λ h. r .there (omega arith) }
-        where
-          at : (k : ℕ) → s ≤ k → k < lowest test n (suc s) → Dec (k ≡ s) → test k ≡ false
-          at k a b (yes d) = ap test d ∙ e
-          at k a b (no d) = r .before k (omega (arith, d)) b
-
   -- the definition finds it
-  pub lowest-found : (A : ℕ → Type 0) → ((k : ℕ) → test k ≡ false → A k) → ((k : ℕ) → test k ≡ true → A k → ⊥) → (n : ℕ) → Lowest A n (lowest test n 0)
+  pub lowest-found : (A : ℕ → Type 0) → ((k : ℕ) → test k ≡ false → A k) → ((k : ℕ) → test k ≡ true → A k → ⊥) → (n : ℕ) → Lowest A n (least test n 0)
   lowest-found A holds fails n =
-      let r = search n 0 in
-      record { within = omega (arith, r .most); before = λ k h. holds k (r .before k (omega arith) h); there = λ h. fails (lowest test n 0) (r .there (omega arith)) }
+      let r = least-found test n 0 in
+      record { within = omega (arith, r .most); before = λ k h. holds k (r .before k (omega arith) h); there = λ h. fails (least test n 0) (r .there (omega arith)) }
 
 -- a start ends alike under both sides, with the same phase
 pub record Agree (a b : Side) (x : ℕ) : Type 0 where
@@ -71,12 +54,12 @@ module _ (a b : Side) where
       omega arith
 
   -- the search finds the lowest start at which the sides part
-  pub lowest-part : (n : ℕ) → Lowest (Agree a b) n (lowest (part a b) n 0)
+  pub lowest-part : (n : ℕ) → Lowest (Agree a b) n (least (part a b) n 0)
   lowest-part = lowest-found (part a b) (Agree a b) agree differ
 
   module _ (w : ℕ) where
     start : ℕ
-    start = lowest (part a b) (2 ^ w) 0
+    start = least (part a b) (2 ^ w) 0
 
     found : Lowest (Agree a b) (2 ^ w) start
     unfolding start

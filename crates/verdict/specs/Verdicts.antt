@@ -1,8 +1,9 @@
 -- 01, "Coefficients and verdict": two sides, and the lowest start at which they part.
-use Prim.Native.Nat.{ℕ, zero, suc, _*_, _%_, _^_}
-use mathlib.Core.Bool.{Bool, true, false, not}
+use Prim.Native.Nat.{ℕ, _*_, _%_, _^_}
+use mathlib.Core.Bool.{Bool, not, _||_, cond}
 use mathlib.Core.List.{List}
 use lib.Dec.{ltb, eqb}
+use Rattle.numbers.specs.Search.{least}
 use Rattle.numbers.specs.Bits.{bit}
 use Rattle.circuit.specs.declared.Gate.{Gate}
 use Rattle.running.specs.Run.{endFrom, phaseFrom}
@@ -23,31 +24,14 @@ circuit gs = record { end = endFrom gs; phase = phaseFrom gs }
 abbrev pub ideal : ℕ → (ℕ → ℕ) → Side
 ideal n f = record { end = λ s. s; phase = λ s. 32768 * (f (s % 2 ^ n) * bit s n) }
 
-abbrev pub orElse : Bool → Bool → Bool
-orElse true b = true
-orElse false b = b
-
 -- "every starting state ends in the same state under both, with the same phase": a start at which that fails
 abbrev pub part : Side → Side → ℕ → Bool
-part a b x = orElse (not (eqb (a .end x) (b .end x))) (not (eqb (a .phase x) (b .phase x)))
-
-abbrev pub first : Bool → ℕ → ℕ → ℕ
-first true here later = here
-first false here later = later
-
--- the lowest of the n numbers from s on at which a test holds, else s + n
-unfoldable pub lowest : (ℕ → Bool) → ℕ → ℕ → ℕ
-lowest test zero s = s
-lowest test (suc n) s = first (test s) s (lowest test n (suc s))
-
-abbrev pub differentIf : Bool → Verdict → Verdict
-differentIf true v = v
-differentIf false v = Same
+part a b x = not (eqb (a .end x) (b .end x)) || not (eqb (a .phase x) (b .phase x))
 
 -- "Different with the .. state, both end states there, and the first phase minus the second, wrapped", for a state below 2^w
 abbrev pub verdictAt : ℕ → Side → Side → ℕ → Verdict
-verdictAt w a b x = differentIf (ltb x (2 ^ w)) (Different x (a .end x) (b .end x) (difference (a .phase x) (b .phase x)))
+verdictAt w a b x = cond (ltb x (2 ^ w)) (Different x (a .end x) (b .end x) (difference (a .phase x) (b .phase x))) Same
 
 -- "Same, or Different with the lowest differing state"
 unfoldable pub verdict : ℕ → Side → Side → Verdict
-verdict w a b = verdictAt w a b (lowest (part a b) (2 ^ w) 0)
+verdict w a b = verdictAt w a b (least (part a b) (2 ^ w) 0)

@@ -2,7 +2,7 @@
 use Prim.Native.Nat.{ℕ, zero, suc, _+_, _-_, _*_, _%_, _^_, _<_, _≤_}
 use mathlib.Core.Path.{_≡_}
 use mathlib.Core.Logic.{_⊎_}
-use mathlib.Core.Bool.{Bool, true, false}
+use mathlib.Core.Bool.{Bool, true, false, cond}
 use mathlib.Core.List.{List, [], _∷_, _++_}
 use lib.Dec.{ltb}
 use lib.Bits.{bitXor}
@@ -16,9 +16,9 @@ use Rattle.running.specs.declared.Met.{Met}
 use Rattle.running.specs.declared.Met.the-variants.{Mixed, Mask}
 use Rattle.running.specs.Masks.{masksAfter, met}
 use Rattle.verdict.specs.declared.Verdict.{Verdict}
-use Rattle.verdict.specs.declared.Verdict.the-variants.{Different}
+use Rattle.verdict.specs.declared.Verdict.the-variants.{Same, Different}
 use Rattle.verdict.specs.Coefficients.{difference, differences}
-use Rattle.verdict.specs.Verdicts.{Side, first, differentIf, verdict}
+use Rattle.verdict.specs.Verdicts.{Side, verdict}
 
 abbrev pub entry : List ℕ → ℕ → ℕ
 entry v i = getD v i 0
@@ -87,12 +87,12 @@ pub record Place (A : ℕ → Type 0) (n : ℕ) (B : ℕ → Type 0) (w state : 
 pub record Settled (first second firsts seconds : List ℕ) (answer : Verdict) (after : List ℕ) : Type 0 where
   pub state : ℕ
   pub place : Place (λ s. entry first s ≡ entry second s) (length first) (λ i. entry firsts i ≡ entry seconds i) (length firsts) state
-  pub answers : answer ≡ differentIf (ltb state (length first)) (Different state (endOf firsts state) (endOf seconds state) (difference (entry first state) (entry second state)))
+  pub answers : answer ≡ cond (ltb state (length first)) (Different state (endOf firsts state) (endOf seconds state) (difference (entry first state) (entry second state))) Same
   pub leaves : after ≡ list (length first) (λ s. difference (entry first s) (entry second s))
 
 -- nothing below h, then half a turn where f is 1
 unfoldable pub halfTurn : List ℕ → ℕ → ℕ → ℕ
-halfTurn t h s = first (ltb s h) 0 (32768 * valueAt t (s - h))
+halfTurn t h s = cond (ltb s h) 0 (32768 * valueAt t (s - h))
 
 -- two sides on w wires with coefficients c and d: the verdict on them, and c minus d in the row
 pub record Decided (w : ℕ) (a b : Side) (c d : ℕ → ℕ) (answer : Verdict) (after : List ℕ) : Type 0 where
