@@ -11,3 +11,4 @@ pub mod Singles
 pub mod Digits
 pub mod Rows
 pub mod Subsets
+pub mod Search
