@@ -1,9 +1,9 @@
 -- A listing's lines, piece by piece, and how long they are.
 use Prim.Native.Nat.{ℕ, suc, _+_, _*_, _-_, _<_, _≤_}
-use native.Mathlib.Nat.{zero-add}
+use native.Mathlib.Nat.{zero-add, mul-le-mul-left}
 use native.Mathlib.Numerals.{add-one}
 use native.Mathlib.Omega.{arith}
-use mathlib.Core.Path.{_≡_, refl, ap, subst, _∙_}
+use mathlib.Core.Path.{_≡_, refl, sym, ap, subst, _∙_}
 use mathlib.Core.Bool.{Bool, true, false}
 use mathlib.Core.List.{List, [], _∷_, _++_}
 use lib.ListN.{length, drop, length-append}
@@ -17,7 +17,7 @@ use Rattle.listing.specs.Text.{decimal, numbered, Wrote}
 use Rattle.listing.specs.Fractions.{fractionOf}
 use Rattle.listing.specs.Listing.{versionLine, includeLine, closing, headLines, wrapLine, cnotLine, phaseLine, gateLine, gateLines, listingOf, listingOfFile}
 use Rattle.listing.proofs.Decimals.{one-digit, two-digits, five-digits}
-use Rattle.listing.proofs.Fractions.{in-lowest-terms}
+use Rattle.listing.proofs.Fractions.{denominator-most, fraction-equals}
 use Rattle.listing.proofs.Writing.{Left, all-left, less-left}
 
 -- ---- what is left of a line, from its start
@@ -36,14 +36,14 @@ unfolding wrapLine
 not-wrapped false w e = refl
 not-wrapped true w e = let z : _≡_ {A = ℕ} 0 1 = cc in absurd (omega arith)
 
-pub cnot-left : (c t at : ℕ) (out : List ℕ) → at + length (cnotLine c t) ≤ length out → Left (cnotLine c t) at out (numbered "cx q[" c ++ (numbered "],q[" t ++ closing)) at out
-unfolding cnotLine
-cnot-left c t at out h = all-left (cnotLine c t) at out h
+module _ (g : Gate) (at : ℕ) (out : List ℕ) (h : at + length (gateLine g) ≤ length out) where
+  pub cnot-left : (c t : ℕ) → g ≡ Cnot c t → Left (gateLine g) at out (numbered "cx q[" c ++ (numbered "],q[" t ++ closing)) at out
+  unfolding cnotLine
+  cnot-left c t e = subst (λ (r : List ℕ). Left (gateLine g) at out r at out) (ap gateLine e) (all-left (gateLine g) at out h)
 
-pub phase-left : (i : ℕ) (f : Fraction) (at : ℕ) (out : List ℕ) → at + length (phaseLine i f) ≤ length out
-    → Left (phaseLine i f) at out (numbered "u1(" (f .above) ++ (numbered "*pi/" (f .below) ++ (numbered ") q[" i ++ closing))) at out
-unfolding phaseLine
-phase-left i f at out h = all-left (phaseLine i f) at out h
+  pub phase-left : (i a : ℕ) (f : Fraction) → g ≡ Phase i a → f ≡ fractionOf a → Left (gateLine g) at out (numbered "u1(" (f .above) ++ (numbered "*pi/" (f .below) ++ (numbered ") q[" i ++ closing))) at out
+  unfolding phaseLine
+  phase-left i a f e q = subst (λ (r : List ℕ). Left (gateLine g) at out r at out) (ap gateLine e ∙ ap (phaseLine i) (sym q)) (all-left (gateLine g) at out h)
 
 -- ---- how long they are
 
@@ -77,8 +77,8 @@ phase-short i f hi ha hb =
 pub line-short : (g : Gate) → Sound 10 g → length (gateLine g) ≤ 32
 line-short (Cnot c t) s = cnot-short c t (s .0) (s .1)
 line-short (Phase i a) s =
-    let l = in-lowest-terms 15 a .smaller in
-    phase-short i (fractionOf a) (s .0) (omega (arith, l .0, s .1)) (omega (arith, l .1))
+    let m = denominator-most a in
+    phase-short i (fractionOf a) (s .0) (omega (arith, fraction-equals a, mul-le-mul-left a m, s .1)) (omega arith)
 
 -- ---- the gates' lines
 
@@ -108,12 +108,13 @@ pub measured-all : (gs : List Gate) (l i : ℕ) → Measured gs l i → drop i g
 measured-all gs l i m e = let k : length (gateLines (drop i gs)) ≡ 0 = ap length (no-lines (drop i gs) e) in omega (arith, m .total)
 
 -- the writing's loop: the lines of the rest are left
-module _ (gs : List Gate) (start : ℕ) (before : List ℕ) (i next : ℕ) (now : List ℕ) (l : Left (gateLines gs) start before (gateLines (drop i gs)) next now) (g : Gate) (e : drop i gs ≡ g ∷ drop (suc i) gs) where
-  pub line-left : Left (gateLines gs) start before (gateLine g ++ gateLines (drop (suc i) gs)) next now
-  line-left = subst (λ (r : List ℕ). Left (gateLines gs) start before r next now) (ap gateLines e ∙ lines-cons g (drop (suc i) gs)) l
+pub line-left : (gs : List Gate) (start : ℕ) (before : List ℕ) (i next : ℕ) (now : List ℕ) → Left (gateLines gs) start before (gateLines (drop i gs)) next now → (g : Gate) → drop i gs ≡ g ∷ drop (suc i) gs
+    → Left (gateLines gs) start before (gateLine g ++ gateLines (drop (suc i) gs)) next now
+line-left gs start before i next now l g e = subst (λ (r : List ℕ). Left (gateLines gs) start before r next now) (ap gateLines e ∙ lines-cons g (drop (suc i) gs)) l
 
-  pub line-written : {behind : ℕ} {after : List ℕ} → Wrote (gateLine g) next now behind after → Left (gateLines gs) start before (gateLines (drop (i + 1) gs)) behind after
-  line-written w = rw (add-one i) (less-left (gateLine g) (gateLines (drop (suc i) gs)) line-left w)
+pub line-written : (gs : List Gate) {start : ℕ} {before : List ℕ} (i : ℕ) {next : ℕ} {now : List ℕ} (g : Gate) → Left (gateLines gs) start before (gateLine g ++ gateLines (drop (suc i) gs)) next now → {behind : ℕ} {after : List ℕ} → Wrote (gateLine g) next now behind after
+    → Left (gateLines gs) start before (gateLines (drop (i + 1) gs)) behind after
+line-written gs i g l w = rw (add-one i) (less-left (gateLine g) (gateLines (drop (suc i) gs)) l w)
 
 -- ---- the whole listing
 

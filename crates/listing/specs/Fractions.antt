@@ -1,17 +1,22 @@
 -- 01, "Listing": "K/D being angle/32,768 in lowest terms".
-use Prim.Native.Nat.{ℕ, zero, suc, _/_, _%_, _^_}
-use mathlib.Core.Bool.{cond}
+use Prim.Native.Nat.{ℕ, _*_, _/_, _%_}
+use mathlib.Core.Bool.{Bool}
 use lib.Dec.{eqb}
+use Rattle.numbers.specs.Search.{least}
 use Rattle.listing.specs.declared.lines.Fraction.{Fraction}
 
+-- "K/D"
 abbrev pub over : ℕ → ℕ → Fraction
 over k d = record { above = k; below = d }
 
--- k/2^e: both are halved while both are even
-unfoldable pub lowest : ℕ → ℕ → Fraction
-lowest zero k = over k 1
-lowest (suc e) k = cond (eqb (k % 2) 0) (lowest e (k / 2)) (over k (2 ^ suc e))
+-- "angle/32,768" is a whole number over d: angle*d is a multiple of 32,768
+abbrev pub whole : ℕ → ℕ → Bool
+whole angle d = eqb (angle * d % 32768) 0
 
--- "angle/32,768": 32,768 is 2^15
+-- "in lowest terms": D is the least such number from 1 on; 32,768 is one
+unfoldable pub denominator : ℕ → ℕ
+denominator angle = least (whole angle) 32768 1
+
+-- "K/D being angle/32,768": K is angle*D over 32,768
 abbrev pub fractionOf : ℕ → Fraction
-fractionOf angle = lowest 15 angle
+fractionOf angle = over (angle * denominator angle / 32768) (denominator angle)

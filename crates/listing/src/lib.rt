@@ -1,6 +1,5 @@
 // Document 01, "Listing": a circuit as OpenQASM 2.0.
 use circuit::Decoded;
-use circuit::Gate;
 use circuit::Reading;
 use refusal::Refusal;
 
@@ -11,23 +10,13 @@ ghost use mathlib.Core.Path.{_≡_};
 ghost use Prim.Native.Nat.{_+_, _≤_};
 ghost use lib.ListN.{length};
 ghost use Rattle.refusal.specs.Checks.{outcome, passed};
-ghost use Rattle.circuit.specs.Gates.{Sound, putAt};
-ghost use Rattle.circuit.specs.File.{wiresOf, countOf, gatesOf, fileChecks};
+ghost use Rattle.circuit.specs.File.{countOf, gatesOf, fileChecks};
 ghost use Rattle.listing.specs.Text.{Wrote};
-ghost use Rattle.listing.specs.Listing.{headLines, wrapLine, gateLine, gateLines, listingOfFile, Lists};
+ghost use Rattle.listing.specs.Listing.{headLines, wrapLine, gateLines, Lists};
 
 pub enum Listed {
     Length(usize),
     Refused(Refusal),
-}
-
-// The length of a gate's line.
-fn line_length(gate: Gate) -> usize
-    requires { ⌜ Sound 10 gate ⌝ }
-    ensures { λ r. ⌜ r ≡ length (gateLine gate) ⌝ }
-{
-    let mut line = [0u8; 32];
-    lines::put_gate(gate, &mut line, 0)
 }
 
 // The length of the lines of a good file's gates.
@@ -42,7 +31,8 @@ fn lines_length(file: &[u8], gates: usize) -> usize
             return total;
         };
         let gate = placed.gate;
-        total += line_length(gate);
+        let mut line = [0u8; 32];
+        total += lines::put_gate(gate, &mut line, 0);
         i += 1;
     }
     total
@@ -78,37 +68,22 @@ fn put_gates(file: &[u8], gates: usize, out: &mut [u8], at: usize) -> usize
     next
 }
 
-// Writes the listing of a good file.
-fn write(file: &[u8], wires: u8, gates: usize, wrapped: bool, out: &mut [u8])
-    requires { ⌜ (outcome (fileChecks 0 (now file)) ≡ passed) × (gates ≡ countOf (now file)) × (wires ≡ wiresOf (now file)) ⌝ }
-    requires { ⌜ length (listingOfFile wrapped (now file)) ≤ length (now out) ⌝ }
-    ensures { λ _. ⌜ now (out .exit) ≡ putAt (listingOfFile wrapped (now (file .entry))) 0 (now (out .entry)) ⌝ }
-{
-    let at = lines::put_head(wires, out, 0);
-    let at = lines::put_wrap(wrapped, wires, out, at);
-    let at = put_gates(file, gates, out, at);
-    lines::put_wrap(wrapped, wires, out, at);
-}
-
-// The listing of a good file, or that there is no room for it.
-fn list_good(file: &[u8], wires: u8, gates: usize, wrapped: bool, out: &mut [u8]) -> Listed
-    requires { ⌜ (outcome (fileChecks 0 (now file)) ≡ passed) × (gates ≡ countOf (now file)) × (wires ≡ wiresOf (now file)) ⌝ }
-    ensures { λ r. ⌜ Lists wrapped (now (file .entry)) (now (out .entry)) r (now (out .exit)) ⌝ }
-{
-    let length = frame_length(wires, wrapped) + lines_length(file, gates);
-    if out.len() < length {
-        return Listed::Refused(refusal::by(refusal::ROOM));
-    }
-    write(file, wires, gates, wrapped, out);
-    Listed::Length(length)
-}
-
 // The text of a circuit at the front of out, or a refusal.
 pub fn list(file: &[u8], wrapped: bool, out: &mut [u8]) -> Listed
     ensures { λ r. ⌜ Lists wrapped (now (file .entry)) (now (out .entry)) r (now (out .exit)) ⌝ }
 {
     match circuit::read(file, 0) {
         Reading::Refused(refusal) => Listed::Refused(refusal),
-        Reading::Circuit { wires, gates } => list_good(file, wires, gates, wrapped, out),
+        Reading::Circuit { wires, gates } => {
+            let length = frame_length(wires, wrapped) + lines_length(file, gates);
+            if out.len() < length {
+                return Listed::Refused(refusal::by(refusal::ROOM));
+            }
+            let at = lines::put_head(wires, out, 0);
+            let at = lines::put_wrap(wrapped, wires, out, at);
+            let at = put_gates(file, gates, out, at);
+            lines::put_wrap(wrapped, wires, out, at);
+            Listed::Length(length)
+        }
     }
 }

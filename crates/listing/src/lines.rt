@@ -3,11 +3,12 @@ use crate::text::put_numbered;
 use crate::text::put_text;
 use circuit::Gate;
 ghost use mathlib.Core.Path.{_≡_};
-ghost use Prim.Native.Nat.{_+_, _≤_, _<_, _^_};
+ghost use mathlib.Core.List.{_++_};
+ghost use Prim.Native.Nat.{_+_, _≤_};
 ghost use lib.ListN.{length};
-ghost use Rattle.listing.specs.Text.{Wrote};
-ghost use Rattle.listing.specs.Fractions.{over, fractionOf};
-ghost use Rattle.listing.specs.Listing.{headLines, wrapLine, cnotLine, phaseLine, gateLine};
+ghost use Rattle.listing.specs.Text.{decimal, Wrote};
+ghost use Rattle.listing.specs.Fractions.{fractionOf};
+ghost use Rattle.listing.specs.Listing.{closing, headLines, wrapLine, gateLine};
 
 const VERSION: [u8; 14] = *b"OPENQASM 2.0;\n";
 
@@ -24,20 +25,6 @@ struct Fraction {
     below: u16,
 }
 
-fn ratio(above: u16, below: u16) -> Fraction
-    ensures { λ r. ⌜ r ≡ over above below ⌝ }
-{
-    Fraction { above, below }
-}
-
-// k over 2^e, where nothing is left to halve.
-fn over_power(k: u16, e: u8) -> Fraction
-    requires { ⌜ e < 16 ⌝ }
-    ensures { λ r. ⌜ r ≡ over k (2 ^ e) ⌝ }
-{
-    ratio(k, numbers::power(e) as u16)
-}
-
 // An angle over 32,768, both halved while both are even.
 fn in_lowest_terms(angle: u16) -> Fraction
     ensures { λ r. ⌜ r ≡ fractionOf angle ⌝ }
@@ -46,12 +33,22 @@ fn in_lowest_terms(angle: u16) -> Fraction
     let mut e: u8 = 15;
     while e > 0 {
         if k % 2 == 1 {
-            return over_power(k, e);
+            break;
         }
         k /= 2;
         e -= 1;
     }
-    over_power(k, e)
+    let below = numbers::power(e) as u16;
+    Fraction { above: k, below }
+}
+
+// A fixed word, a wire's number, and what ends the line.
+fn put_last(word: &[u8], n: u16, out: &mut [u8], at: usize) -> usize
+    requires { ⌜ at + length ((now word ++ decimal n) ++ closing) ≤ length (now out) ⌝ }
+    ensures { λ r. ⌜ Wrote ((now (word .entry) ++ decimal n) ++ closing) at (now (out .entry)) r (now (out .exit)) ⌝ }
+{
+    let at = put_numbered(word, n, out, at);
+    put_text(&CLOSING, out, at)
 }
 
 // The three header lines.
@@ -61,8 +58,7 @@ pub fn put_head(wires: u8, out: &mut [u8], at: usize) -> usize
 {
     let at = put_text(&VERSION, out, at);
     let at = put_text(&INCLUDE, out, at);
-    let at = put_numbered(&REGISTER, wires as u16, out, at);
-    put_text(&CLOSING, out, at)
+    put_last(&REGISTER, wires as u16, out, at)
 }
 
 // If wrapped, the h line on the last wire.
@@ -72,29 +68,9 @@ pub fn put_wrap(wrapped: bool, wires: u8, out: &mut [u8], at: usize) -> usize
     ensures { λ r. ⌜ Wrote (wrapLine wrapped wires) at (now (out .entry)) r (now (out .exit)) ⌝ }
 {
     if wrapped {
-        let at = put_numbered(b"h q[", (wires - 1) as u16, out, at);
-        return put_text(&CLOSING, out, at);
+        return put_last(b"h q[", (wires - 1) as u16, out, at);
     }
     at
-}
-
-fn put_cnot(control: u8, target: u8, out: &mut [u8], at: usize) -> usize
-    requires { ⌜ at + length (cnotLine control target) ≤ length (now out) ⌝ }
-    ensures { λ r. ⌜ Wrote (cnotLine control target) at (now (out .entry)) r (now (out .exit)) ⌝ }
-{
-    let at = put_numbered(b"cx q[", control as u16, out, at);
-    let at = put_numbered(b"],q[", target as u16, out, at);
-    put_text(&CLOSING, out, at)
-}
-
-fn put_phase(wire: u8, f: Fraction, out: &mut [u8], at: usize) -> usize
-    requires { ⌜ at + length (phaseLine wire f) ≤ length (now out) ⌝ }
-    ensures { λ r. ⌜ Wrote (phaseLine wire f) at (now (out .entry)) r (now (out .exit)) ⌝ }
-{
-    let at = put_numbered(b"u1(", f.above, out, at);
-    let at = put_numbered(b"*pi/", f.below, out, at);
-    let at = put_numbered(b") q[", wire as u16, out, at);
-    put_text(&CLOSING, out, at)
 }
 
 // A gate's line.
@@ -103,7 +79,15 @@ pub fn put_gate(gate: Gate, out: &mut [u8], at: usize) -> usize
     ensures { λ r. ⌜ Wrote (gateLine gate) at (now (out .entry)) r (now (out .exit)) ⌝ }
 {
     match gate {
-        Gate::Cnot { control, target } => put_cnot(control, target, out, at),
-        Gate::Phase { wire, angle } => put_phase(wire, in_lowest_terms(angle), out, at),
+        Gate::Cnot { control, target } => {
+            let at = put_numbered(b"cx q[", control as u16, out, at);
+            put_last(b"],q[", target as u16, out, at)
+        }
+        Gate::Phase { wire, angle } => {
+            let f = in_lowest_terms(angle);
+            let at = put_numbered(b"u1(", f.above, out, at);
+            let at = put_numbered(b"*pi/", f.below, out, at);
+            put_last(b") q[", wire as u16, out, at)
+        }
     }
 }

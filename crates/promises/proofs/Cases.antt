@@ -15,10 +15,10 @@ use Rattle.verdict.specs.Coefficients.{coefficient, differences}
 use Rattle.verdict.specs.Verdicts.{verdict}
 use Rattle.numbers.specs.Search.{least}
 use Rattle.listing.specs.Text.{decimalFrom}
-use Rattle.listing.specs.Fractions.{lowest as lowestTerms}
+use Rattle.listing.specs.Fractions.{denominator}
 use Rattle.listing.specs.Listing.{headLines, wrapLine, cnotLine, phaseLine, gateLines, listingOf}
 use Rattle.promises.specs.Cases.{AllHold, cases}
 
 pub cases-hold : AllHold cases
-unfolding cases outcome dot subset ones onesIn trailingZeros spectrumOf decoded firstBad gatesFrom bytesOf fileOf endFrom totalFrom cnots phases score masksFrom sumMet turned word construction foldedFrom coefficient differences least verdict decimalFrom lowestTerms headLines wrapLine cnotLine phaseLine gateLines listingOf
+unfolding cases outcome dot subset ones onesIn trailingZeros spectrumOf decoded firstBad gatesFrom bytesOf fileOf endFrom totalFrom cnots phases score masksFrom sumMet turned word construction foldedFrom coefficient differences least verdict decimalFrom denominator headLines wrapLine cnotLine phaseLine gateLines listingOf
 cases-hold = (record { says = refl; leaves = refl }, (record { says = refl; leaves = refl }, (record { says = refl; leaves = refl }, (record { says = refl; leaves = refl }, (record { says = refl; leaves = refl }, (refl, (record { says = refl; leaves = refl }, (record { says = refl; leaves = refl }, (record { says = refl; leaves = refl }, (record { says = refl; leaves = refl }, (record { says = refl; leaves = refl }, (record { says = refl; leaves = refl }, (record { says = refl; leaves = refl }, (record { says = refl; leaves = refl }, tt))))))))))))))

@@ -1,12 +1,11 @@
-use borrow.Author.Needs.{needs}
-use Rattle.listing.specs.Listing.{gateLine}
-use Prim.Native.Nat.{suc}
-use Prim.Native.Nat.{_-_, _≤_}
+use Prim.Native.Nat.{suc, _-_, _≤_}
 use native.Mathlib.Omega.{arith}
 use mathlib.Core.Path.{sym, _∙_}
+use mathlib.Core.List.{_++_}
 use lib.ListN.{drop}
+use borrow.Author.Needs.{needs}
 use Rattle.circuit.specs.File.{gatesOf}
-use Rattle.listing.specs.Listing.{gateLines}
+use Rattle.listing.specs.Listing.{gateLine, gateLines}
 use Rattle.listing.proofs.Writing.{Left, all-left, room, none-left}
 use Rattle.listing.proofs.Pieces.{line-left, line-written, no-lines}
 use Rattle.listing.proofs.GateLoops.{next-gate, never-bad, at-end}
@@ -18,6 +17,23 @@ Inv-loop file gates out₀ at next₀ i₀ out next i = (i ≤ gates) × Left (g
 
 abbrev μ-loop : tie.MeasureT-loop
 μ-loop file gates out₀ at next₀ i₀ out next i = gates - i
+
+abbrev loop : tie.After-placed Inv-loop μ-loop → tie.At-loop Inv-loop μ-loop
+loop c = c .before .before .before .before
+
+abbrev start : tie.After-placed Inv-loop μ-loop → tie.Start Inv-loop μ-loop
+start c = loop c .before .before .before
+
+-- the next gate's line and those of the rest are left
+left : (c : tie.After-placed Inv-loop μ-loop) → let a = start c .args in let gs = gatesOf (a .file .now) in Left (gateLines gs) (a .at) (a .out .now) (gateLine (c .placed .given .0 .0 .gate) ++ gateLines (drop (suc (loop c .loop .i)) gs)) (loop c .loop .next) (loop c .loop .out)
+left c =
+    let at = loop c in
+    let s = at .before .before in
+    let a = start c .args in
+    let f = a .file .now in
+    let q = c .placed .given .0 .0 in
+    line-left (gatesOf f) (a .at) (a .out .now) (at .loop .i) (at .loop .next) (at .loop .out) (at .loop .inv .1) (q .gate)
+    (next-gate f (λ j. s .shared-slice-known .given j .fits) (s .before .pre .0 .0) (at .loop .i) q (omega arith) (sym (c .before .before .gate-at .ensures) ∙ c .placed .given .1))
 
 loop-holds : tie.Need-loop-holds Inv-loop μ-loop
 loop-holds c = let s = c .before .before in
@@ -44,15 +60,7 @@ returns c = let got = c .before .before in
 
 put-gate-requires : tie.Need-put-gate-requires Inv-loop μ-loop
 put-gate-requires c κs = let found = c .before .before in
-    let got = found .before .before in
-    let at = got .before .before in
-    let s = at .before .before in
-    let a = s .before .args in
-    let f = a .file .now in
-    let q = found .placed .given .0 .0 in
-    room (gateLine (q .gate)) (gateLines (drop (suc (at .loop .i)) (gatesOf f)))
-    (line-left (gatesOf f) (a .at) (a .out .now) (at .loop .i) (at .loop .next) (at .loop .out) (at .loop .inv .1) (q .gate)
-    (next-gate f (λ j. s .shared-slice-known .given j .fits) (s .before .pre .0 .0) (at .loop .i) q (omega arith) (sym (got .gate-at .ensures) ∙ found .placed .given .1)))
+    room (gateLine (found .placed .given .0 .0 .gate)) (gateLines (drop (suc (loop found .loop .i)) (gatesOf (start found .args .file .now)))) (left found)
 
 add-i : tie.Need-add-i Inv-loop μ-loop
 add-i c = omega arith
@@ -63,16 +71,7 @@ loop-less c = omega arith
 loop-again : tie.Need-loop-again Inv-loop μ-loop
 loop-again c = let put = c .before .before in
     let found = put .before .before .before in
-    let got = found .before .before in
-    let at = got .before .before in
-    let s = at .before .before in
-    let a = s .before .args in
-    let f = a .file .now in
-    let q = found .placed .given .0 .0 in (
-      omega arith,
-      line-written (gatesOf f) (a .at) (a .out .now) (at .loop .i) (at .loop .next) (at .loop .out) (at .loop .inv .1) (q .gate)
-          (next-gate f (λ j. s .shared-slice-known .given j .fits) (s .before .pre .0 .0) (at .loop .i) q (omega arith) (sym (got .gate-at .ensures) ∙ found .placed .given .1)) (put .put-gate .ensures),
-    )
+    (omega arith, line-written (gatesOf (start found .args .file .now)) (loop found .loop .i) (found .placed .given .0 .0 .gate) (left found) (put .put-gate .ensures))
 
 same-length-2 : tie.Need-same-length-2 Inv-loop μ-loop
 same-length-2 c = c .before .loop .inv .1 .long

@@ -19,12 +19,6 @@ s2 c = c .before .before .before .before .before .before .before .before .before
 left2 : (c : tie.After-put-text2) → Left (headLines (s2 c .args .wires)) (s2 c .args .at) (s2 c .args .out .now) (numbered "qreg q[" (s2 c .args .wires) ++ (closing)) (c .put-text2 .result) (c .put-text2 .last .1 .0)
 left2 c = let a = s2 c .args in less-left (includeLine) (numbered "qreg q[" (a .wires) ++ (closing)) (left1 (c .before .before .before .before .before)) (c .put-text2 .ensures)
 
-abbrev s3 : tie.After-put-numbered → tie.Start
-s3 c = c .before .before .before .before .before .before .before .before .before .before .before .before .before .before
-
-left3 : (c : tie.After-put-numbered) → Left (headLines (s3 c .args .wires)) (s3 c .args .at) (s3 c .args .out .now) (closing) (c .put-numbered .result) (c .put-numbered .last .1 .1 .0)
-left3 c = let a = s3 c .args in less-left (numbered "qreg q[" (a .wires)) (closing) (left2 (c .before .before .before .before .before)) (c .put-numbered .ensures)
-
 slice-aggregate-put-text : tie.Need-slice-aggregate-put-text
 slice-aggregate-put-text c = search needs
 
@@ -37,23 +31,17 @@ slice-aggregate-put-text-2 c = search needs
 put-text-requires-2 : tie.Need-put-text-requires-2
 put-text-requires-2 c κs = let p = c .before .before .before .before in let a = s1 p .args in room (includeLine) (numbered "qreg q[" (a .wires) ++ (closing)) (left1 p)
 
-slice-aggregate-put-numbered : tie.Need-slice-aggregate-put-numbered
-slice-aggregate-put-numbered c = search needs
+slice-aggregate-put-last : tie.Need-slice-aggregate-put-last
+slice-aggregate-put-last c = search needs
 
-put-numbered-requires : tie.Need-put-numbered-requires
-put-numbered-requires c κs = let p = c .before .before .before .before in let a = s2 p .args in room (numbered "qreg q[" (a .wires)) (closing) (left2 p)
-
-slice-aggregate-put-text-3 : tie.Need-slice-aggregate-put-text-3
-slice-aggregate-put-text-3 c = search needs
-
-put-text-requires-3 : tie.Need-put-text-requires-3
-put-text-requires-3 c κs = left3 (c .before .before .before .before) .fits
+put-last-requires : tie.Need-put-last-requires
+put-last-requires c κs = left2 (c .before .before .before .before) .fits
 
 same-length : tie.Need-same-length
 same-length c = search needs
 
 returns : tie.Need-returns
-returns c = let p = c .before .before in all-written (left3 (p .before .before .before .before .before)) (p .put-text3 .ensures)
+returns c = let p = c .before .before in all-written (left2 (p .before .before .before .before .before)) (p .put-last .ensures)
 
 pub put-head-spec : {M : Type 1} → statement M
 put-head-spec =
@@ -63,9 +51,7 @@ put-head-spec =
     put-text-requires
     slice-aggregate-put-text-2
     put-text-requires-2
-    slice-aggregate-put-numbered
-    put-numbered-requires
-    slice-aggregate-put-text-3
-    put-text-requires-3
+    slice-aggregate-put-last
+    put-last-requires
     same-length
     returns)
