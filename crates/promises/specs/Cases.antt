@@ -79,6 +79,8 @@ cases =
     ∷ compared (fileOf 2 (Cnot 1 0 ∷ [])) empty (Different 2 3 2 0) (0 ∷ 0 ∷ 0 ∷ 0 ∷ [])
     ∷ compared builtHere empty (Different 3 3 3 32768) (0 ∷ 0 ∷ 0 ∷ 32768 ∷ [])
     ∷ compared (threefold 32768) empty Same (0 ∷ 0 ∷ 0 ∷ 0 ∷ [])
+    -- "equal circuits may have different folded parities": this one keeps its three groups
+    ∷ folds (threefold 32768) (threefold 32768) 3 3
     ∷ compared (threefold 16384) empty (Different 1 1 1 32768) (0 ∷ 32768 ∷ 32768 ∷ 32768 ∷ [])
     ∷ prints (0x01 ∷ 0x02 ∷ [])
     (ascii
