@@ -1,0 +1,40 @@
+use mathlib.Core.Path.{sym, ap, _∙_}
+use Rattle.running.specs.declared.Ran.{Ran}
+use Rattle.running.specs.Run.{ranSays}
+use Rattle.c_interface.specs.Numbers.{numbersOf}
+use borrow.Author.Needs.{needs}
+use Rattle.c_interface.proofs.told.ran.Statement.{statement}
+use Rattle.c_interface.proofs.told.ran.Tie as tie
+
+enum-known-answer : tie.Need-enum-known-answer
+enum-known-answer c = search needs
+
+cast-t6 : tie.Need-cast-t6
+cast-t6 c = search needs
+
+cast-t7 : tie.Need-cast-t7
+cast-t7 c = search needs
+
+enum-known-answer-2 : tie.Need-enum-known-answer-2
+enum-known-answer-2 c = search needs
+
+refused-requires : tie.Need-refused-requires
+refused-requires c κs = search needs
+
+returns : tie.Need-returns
+returns c = ap (λ (a : Ran). numbersOf (ranSays a)) (sym (c .before .answer .given .1))
+
+returns-2 : tie.Need-returns-2
+returns-2 c = c .refused .ensures ∙ ap (λ (a : Ran). numbersOf (ranSays a)) (sym (c .before .before .answer2 .given .1))
+
+pub ran-spec : {M : Type 1} → statement M
+ran-spec =
+    tie.close
+    (tie.spec
+    enum-known-answer
+    cast-t6
+    cast-t7
+    enum-known-answer-2
+    refused-requires
+    returns
+    returns-2)
