@@ -50,6 +50,11 @@ def f(table, x):
     return table[x // 8] >> x % 8 & 1
 
 
+def value(table, x):
+    """f(x); 0 past the table's end."""
+    return f(table, x) if x // 8 < len(table) else 0
+
+
 def ones(number):
     return bin(number).count("1")
 
@@ -126,6 +131,12 @@ def decode(w, position, four):
     if kind == 2 and second < w:
         return Held(position, Phase(second, third * 256 + fourth))
     return None
+
+
+def gate_at(file, position):
+    """The gate at a position of a file; bad where its bytes do not all lie in the file."""
+    four = file[8 + 4 * position:12 + 4 * position]
+    return decode(file[5], position, four) if len(four) == 4 else None
 
 
 def parse(file, side=0):
@@ -303,13 +314,18 @@ def listing(file, wrapped, room=None):
     return text.encode("ascii")
 
 
+def oracle_listing(stdin, room=None):
+    """The wrapped listing of the folded circuit for the byte n and then the table."""
+    if len(stdin) == 0:
+        raise Refused(VARS)
+    folded, before, after = fold(build(stdin[0], stdin[1:]))
+    return listing(folded, True, room)
+
+
 def listing_program(stdin):
     """What the listing program prints for these bytes on standard input."""
     try:
-        if len(stdin) == 0:
-            raise Refused(VARS)
-        folded, before, after = fold(build(stdin[0], stdin[1:]))
-        return listing(folded, True)
+        return oracle_listing(stdin)
     except Refused as refused:
         return f"refused {refused.number}\n".encode("ascii")
 

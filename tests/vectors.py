@@ -1,7 +1,6 @@
 """Requests for the vectors program `cases` and the output expected of it.
 
-python3 tests/vectors.py SECTION.. --requests FILE --expected FILE
-python3 tests/vectors.py SECTION.. --show
+python3 tests/vectors.py --requests crates/cases/stdin --expected crates/cases/stdout (SECTION.. for some, --show to read them)
 """
 
 import argparse
@@ -13,52 +12,72 @@ from oracle import Cnot, Phase, encode
 
 Request = namedtuple("Request", "op a b room first second note")
 
+# In the order of their numbers in `cases`
+OPERATIONS = ["spectrum", "check", "value", "decode", "gate_at", "read", "run", "count",
+              "build", "fold", "list", "oracle", "compare", "judge"]
+
 
 # Requests, one maker an operation
 
 def spectrum(note, n, table, room):
-    return Request("S", n, 0, room, table, b"", note)
+    return Request("spectrum", n, 0, room, table, b"", note)
+
+
+def check(note, n, table):
+    return Request("check", n, 0, 0, table, b"", note)
+
+
+def value(note, table, x):
+    return Request("value", 0, x, 0, table, b"", note)
 
 
 def decode(note, w, position, four):
-    return Request("D", w, position, 0, bytes(four), b"", note)
+    return Request("decode", w, position, 0, bytes(four), b"", note)
+
+
+def gate_at(note, file, position):
+    return Request("gate_at", 0, position, 0, file, b"", note)
 
 
 def read(note, file, side=0):
-    return Request("R", side, 0, 0, file, b"", note)
+    return Request("read", side, 0, 0, file, b"", note)
 
 
 def run(note, file, start):
-    return Request("U", 0, start, 0, file, b"", note)
+    return Request("run", 0, start, 0, file, b"", note)
 
 
 def count(note, file):
-    return Request("C", 0, 0, 0, file, b"", note)
+    return Request("count", 0, 0, 0, file, b"", note)
 
 
 def build(note, n, table, room):
-    return Request("B", n, 0, room, table, b"", note)
+    return Request("build", n, 0, room, table, b"", note)
 
 
 def fold(note, file, room):
-    return Request("F", 0, 0, room, file, b"", note)
+    return Request("fold", 0, 0, room, file, b"", note)
 
 
 def compare(note, first, second, room):
-    return Request("P", 0, 0, room, first, second, note)
+    return Request("compare", 0, 0, room, first, second, note)
 
 
 def judge(note, n, table, file, room):
-    return Request("J", n, 0, room, table, file, note)
+    return Request("judge", n, 0, room, table, file, note)
 
 
 def listing(note, file, wrapped, room):
-    return Request("L", 1 if wrapped else 0, 0, room, file, b"", note)
+    return Request("list", 1 if wrapped else 0, 0, room, file, b"", note)
+
+
+def oracle_listing(note, stdin, room):
+    return Request("oracle", 0, 0, room, stdin, b"", note)
 
 
 def frame(request):
     numbers = request.b, request.room, len(request.first), len(request.second)
-    header = request.op.encode("ascii") + bytes([request.a])
+    header = bytes([OPERATIONS.index(request.op), request.a])
     header += b"".join(number.to_bytes(2, "big") for number in numbers)
     return header + request.first + request.second
 
@@ -73,92 +92,83 @@ def digest(data):
 
 
 def bytes_words(data):
-    if len(data) > 16:
-        return f"{len(data)} bytes {digest(data)}"
-    return data.hex() or "-"
-
-
-def slice_words(entries, width):
-    if len(entries) > 16:
-        data = b"".join((entry % 256 ** width).to_bytes(width, "big") for entry in entries)
-        return f"{len(entries)} entries {digest(data)}"
-    return " ".join(str(entry) for entry in entries) or "-"
+    return f"{len(data)} bytes {digest(data)}" if len(data) > 16 else f"x{data.hex()}"
 
 
 def fill(room):
     return [(i * 37 + 11) % 251 for i in range(room)]
 
 
-WIDTH_LENT = {"S": 4, "B": 1, "F": 1, "P": 2, "J": 2, "L": 1}
+def entry_bytes(entries, width):
+    return b"".join((entry % 256 ** width).to_bytes(width, "big") for entry in entries)
+
+
+# Bytes shown of an entry of the lent slice; every sum of a spectrum fits in two
+WIDTH_LENT = {"spectrum": 2, "build": 1, "fold": 1, "compare": 2, "judge": 2, "list": 1, "oracle": 1}
 
 
 def request_words(request):
     first, second = bytes_words(request.first), bytes_words(request.second)
-    a, b, room = request.a, request.b, request.room
-    return {
-        "S": f"spectrum n {a} table {first} room {room}",
-        "D": f"decode wires {a} position {b} bytes {first}",
-        "R": f"read side {a} file {first}",
-        "U": f"run file {first} start {b}",
-        "C": f"count file {first}",
-        "B": f"build n {a} table {first} room {room}",
-        "F": f"fold file {first} room {room}",
-        "P": f"compare first {first} second {second} room {room}",
-        "J": f"judge n {a} table {first} file {second} room {room}",
-        "L": f"list {'wrapped' if a else 'plain'} file {first} room {room}",
-    }[request.op]
+    return f"{request.op:8} {request.a} {request.b} {request.room} {first} {second}"
 
 
-def gate_words(held):
+def gate_values(held):
     if held is None:
-        return "bad"
-    position, gate = held
-    if isinstance(gate, Cnot):
-        return f"cnot {gate.control} to {gate.target} at {position}"
-    return f"phase {gate.angle} on {gate.wire} at {position}"
+        return [0]
+    if isinstance(held.gate, Cnot):
+        return [1, held.gate.control, held.gate.target, held.position]
+    return [2, held.gate.wire, held.gate.angle, held.position]
 
 
-def verdict_words(verdict):
-    if verdict == oracle.SAME:
-        return "same"
-    return (f"different at {verdict.state} ends {verdict.first_end} {verdict.second_end}"
-            f" phase {verdict.phase}")
+def verdict_values(verdict):
+    return [0] if verdict == oracle.SAME else [1, *verdict]
 
 
 def answer(request):
-    """What is answered, in words, and the entries written."""
+    """The values answered and the entries written."""
     op, a, b, room, first, second, note = request
-    if op == "S":
+    if op == "spectrum":
         written = oracle.spectrum(a, first, room)
-        return f"answers {len(written)}", written
-    if op == "D":
-        return gate_words(oracle.decode(a, b, first)), []
-    if op == "R":
-        return "wires {} gates {}".format(*oracle.read(first, a)), []
-    if op == "U":
-        return "end {} phase {}".format(*oracle.run(first, b)), []
-    if op == "C":
-        return "cnots {} phases {} score {}".format(*oracle.count(first)), []
-    if op == "B":
+        return [len(written)], written
+    if op == "check":
+        oracle.check_table(a, first)
+        return [], []
+    if op == "value":
+        return [oracle.value(first, b)], []
+    if op == "decode":
+        return gate_values(oracle.decode(a, b, first)), []
+    if op == "gate_at":
+        return gate_values(oracle.gate_at(first, b)), []
+    if op == "read":
+        return oracle.read(first, a), []
+    if op == "run":
+        return oracle.run(first, b), []
+    if op == "count":
+        return oracle.count(first), []
+    if op == "build":
         written = oracle.build(a, first, room)
-        return f"length {len(written)}", written
-    if op == "F":
+        return [len(written)], written
+    if op == "fold":
         written, before, after = oracle.fold(first, room)
-        return f"length {len(written)} score {before} to {after}", written
-    if op == "P":
+        return [len(written), before, after], written
+    if op == "compare":
         verdict, written = oracle.compare(first, second, room)
-        return verdict_words(verdict), written
-    if op == "J":
+        return verdict_values(verdict), written
+    if op == "judge":
         verdict, written = oracle.judge(a, first, second, room)
-        return verdict_words(verdict), written
-    if op == "L":
+        return verdict_values(verdict), written
+    if op == "list":
         written = oracle.listing(first, a == 1, room)
-        return f"length {len(written)}", written
+        return [len(written)], written
+    if op == "oracle":
+        written = oracle.oracle_listing(first, room)
+        return [len(written)], written
 
 
 def expected_line(request):
     try:
-        words, written = answer(request)
+        values, written = answer(request)
+        words = " ".join(["answers", *map(str, values)])
     except oracle.Refused as refused:
         words = f"refused {refused.number} side {refused.side} position {refused.position}"
         written = []
@@ -167,8 +177,14 @@ def expected_line(request):
         lent = fill(request.room)
         assert len(written) <= len(lent)
         lent[:len(written)] = written
-        line += f"; {slice_words(lent, WIDTH_LENT[request.op])}"
+        line += f"; {bytes_words(entry_bytes(lent, WIDTH_LENT[request.op]))}"
     return line
+
+
+def totals(requests):
+    for op in OPERATIONS:
+        yield f"{op:8} {sum(1 for request in requests if request.op == op)}"
+    yield f"{len(requests)} cases compared"
 
 
 # Tables
@@ -380,6 +396,20 @@ def refusal_samples():
 
 # Section circuit
 
+def gate_requests(full):
+    file = raw(2, ["01000100", "0201ffff", "01010101", "02000000"])
+    for position in (0, 1, 2, 3, 4, 5, 65535):
+        yield gate_at("of four gates, the third bad", file, position)
+    for position in (0, 1023, 2046, 2047, 2048, 65535):
+        yield gate_at("of 2,048 gates", full, position)
+    for length in (0, 5, 6, 8, 11, 12, 13, 15, 16, 19, 20):
+        for position in (0, 1, 2):
+            yield gate_at(f"first {length} bytes", file[:length], position)
+    for w in (0, 1, 2, 10, 11, 255):
+        yield gate_at(f"wires {w}", raw(w, ["01010000"]), 0)
+    yield gate_at("mark and count wrong", raw(2, ["02014000"], mark=b"QQQ", number=7), 0)
+
+
 def circuit_section(rng):
     for kind in range(4):
         for second in range(3):
@@ -451,6 +481,8 @@ def circuit_section(rng):
     yield run("phase after the bit was cleared", encode(2, [Cnot(0, 1), Phase(1, 7)]), 3)
     yield run("phase after the bit was set", encode(2, [Cnot(0, 1), Phase(1, 7)]), 1)
     yield run("swap of two wires", encode(2, [Cnot(0, 1), Cnot(1, 0), Cnot(0, 1), Phase(1, 7)]), 1)
+
+    yield from gate_requests(full)
 
     yield count("no gates", raw(4, []))
     yield count("zero angles alone", encode(3, [Phase(2, 0)] * 6))
@@ -832,9 +864,145 @@ def listing_section(rng):
         yield listing(note, file, rng.randrange(2) == 1, 100)
 
 
+# Section table
+
+def table_section(rng):
+    for note, n, table in refused_tables(rng):
+        yield check(note, n, table)
+    for n in range(10):
+        for length in (0, 1, 2, 4, 8, 16, 31, 32, 33, 64):
+            yield check(f"n {n}, {length} bytes", n, bytes(length))
+    for n in (1, 2):
+        for byte in range(256):
+            yield check("every byte", n, bytes([byte]))
+    for n in range(1, 9):
+        table = random_table(rng, n)
+        length = 8 * len(table)
+        for x in sorted({0, 1, 2 ** n - 1, 2 ** n, length - 1, *rng.sample(range(length), 6)}):
+            yield value(f"n {n}", table, x)
+        for x in (length, length + 1, length + 7, 65535):
+            yield value(f"n {n}, past the end", table, x)
+    for place in range(8):
+        for x in range(16):
+            yield value("one bit of two bytes", bytes([1 << place, 0x80 >> place]), x)
+    for x in (0, 7, 8, 65535):
+        yield value("empty table", b"", x)
+
+
+# Section oracle
+
+def oracle_rooms(note, n, table, rooms=(0, 1, 21, -1)):
+    stdin = bytes([n]) + table
+    length = len(oracle.oracle_listing(stdin))
+    for extra in rooms:
+        yield oracle_listing(f"{note}, room {extra:+}", stdin, length + extra)
+
+
+def oracle_section(rng):
+    for n in (1, 2):
+        for byte in range(2 ** 2 ** n):
+            yield from oracle_rooms("every table", n, bytes([byte]))
+    for n in range(3, 9):
+        tables = named_tables(rng, n)
+        for note, table in tables if n < 5 else tables[-4:] if n < 7 else tables[-1:]:
+            yield from oracle_rooms(f"n {n}, {note}", n, table, rooms=(0, -1) if n < 8 else (0, 1, -1))
+    for room in (0, 1, 35, 36, 100, 65535):
+        yield oracle_listing("empty input", b"", room)
+    for note, n, table in refused_tables(rng):
+        length = 60000 if n in range(1, 9) else 100
+        yield oracle_listing(note, bytes([n]) + table, length)
+        yield oracle_listing(f"{note}, no room", bytes([n]) + table, 0)
+
+
+# Section paper
+
+def paper_section(rng):
+    """01, "Cases on each side" and the listing's example, one after the other."""
+    for n, byte in ((1, 0x00), (2, 0x08), (2, 0x06), (3, 0xE8)):
+        yield spectrum("spectra", n, bytes([byte]), 2 ** n)
+
+    built, larger = oracle.build(1, b"\2"), oracle.build(2, b"\x08")
+    yield build("built, n 1, byte 02", 1, b"\2", 32)
+    yield read("6 gates on 2 wires", built)
+    yield count("score 3", built)
+    yield build("built, n 2, byte 08", 2, b"\x08", 64)
+    yield read("14 gates", larger)
+    yield count("score 8", larger)
+    yield fold("folding to 13, score 8 to 7", larger, 64)
+    folded = oracle.fold(larger)[0]
+    yield read("13 gates", folded)
+    yield count("score 7", folded)
+    yield gate_at("the first gate before folding", larger, 0)
+    yield gate_at("the first gate becomes phase 8,192 on wire 2", folded, 0)
+    yield judge("the built circuit is the oracle", 2, b"\x08", larger, 8)
+    yield judge("the folded circuit is the oracle", 2, b"\x08", folded, 8)
+
+    yield fold("wire 0 by 1 then by 65,535 gives no gate", encode(1, [Phase(0, 1), Phase(0, 65535)]), 16)
+    yield fold("gives 14, CNOT, 7, CNOT",
+               encode(2, [Phase(1, 5), Cnot(0, 1), Phase(1, 7), Cnot(0, 1), Phase(1, 9)]), 28)
+
+    empty = encode(2, [])
+    yield compare("CNOT 0 to 1 differs at 1, ends 3 and 1, phase 0", encode(2, [Cnot(0, 1)]), empty, 4)
+    yield compare("CNOT 1 to 0 differs at 2, ends 3 and 2", encode(2, [Cnot(1, 0)]), empty, 4)
+    yield compare("the built file differs at 3, phase 32,768", built, empty, 4)
+    for a, note in ((32768, "a = 32,768 is Same"), (16384, "a = 16,384 differs at 1, phase 32,768")):
+        three = [Phase(0, a), Phase(1, a), Cnot(0, 1), Phase(1, a), Cnot(0, 1)]
+        yield compare(note, encode(2, three), empty, 4)
+
+    yield from limit_requests()
+    example = b"\1\2"
+    yield oracle_listing("the listing's example", example, len(oracle.EXAMPLE_LISTING))
+    yield oracle_listing("the listing's example, room one short", example, len(oracle.EXAMPLE_LISTING) - 1)
+    yield oracle_listing("an empty input is refused 1", b"", 100)
+
+
+def limit_requests():
+    """01, "Limits", and both sides of the refusals' other bounds."""
+    for n in (0, 1, 8, 9):
+        table = bytes(oracle.table_length(n))
+        yield check(f"n {n}", n, table)
+        yield spectrum(f"n {n}", n, table, 256)
+        yield build(f"n {n}", n, table, 4096)
+        yield judge(f"n {n}", n, table, raw(min(n + 1, 10), []), 1024)
+        yield oracle_listing(f"n {n}", bytes([n]) + table, 60000)
+    for n, byte in ((1, 0x03), (1, 0x04), (2, 0x0F), (2, 0x10), (3, 0xFF)):
+        yield check(f"n {n} byte {byte:02x}", n, bytes([byte]))
+        yield build(f"n {n} byte {byte:02x}", n, bytes([byte]), 128)
+    for room in (31, 32):
+        yield build(f"room {room} for the built file", 1, b"\2", room)
+
+    empty = encode(1, [])
+    for note, file in (("7 bytes", empty[:7]), ("8 bytes", empty), ("w 0", raw(0, [])), ("w 10", raw(10, [])),
+                       ("w 11", raw(11, [])), ("2,048 gates", encode(1, [Phase(0, 1)] * 2048)),
+                       ("2,049 gates", encode(1, [Phase(0, 1)] * 2049)),
+                       ("2,048 gates, the last bad", encode(1, [Phase(0, 1)] * 2047 + [Phase(1, 1)])),
+                       ("2,048 gates and a byte", encode(1, [Phase(0, 1)] * 2048) + b"\0")):
+        yield read(note, file)
+        yield read(f"{note}, side 1", file, 1)
+        yield run(note, file, 1)
+        yield count(note, file)
+        yield fold(note, file, 16)
+        yield compare(f"{note}, first", file, empty, 1024)
+        yield compare(f"{note}, second", empty, file, 1024)
+        yield judge(note, 1, b"\2", file, 1024)
+        yield listing(note, file, True, 65535)
+    for w in (1, 10):
+        for start in (0, 2 ** w - 1, 2 ** w, 65535):
+            yield run(f"start {start} on {w} wires", raw(w, []), start)
+        for room in (2 ** w - 1, 2 ** w):
+            yield compare(f"work of {room} on {w} wires", raw(w, []), raw(w, []), room)
+    nine = oracle.build(8, bytes(32))
+    whole = oracle.parse(nine)[1] + [Phase(8, 0)] * 1026
+    yield judge("2,048 gates", 8, bytes(32), encode(9, whole), 512)
+    yield judge("2,049 gates", 8, bytes(32), encode(9, whole + [Phase(8, 0)]), 512)
+    for n, w in ((1, 1), (1, 2), (1, 3), (8, 8), (8, 9), (8, 10)):
+        yield judge(f"n {n} and {w} wires", n, bytes(oracle.table_length(n)), raw(w, []), 1024)
+
+
 SECTIONS = {
-    "spectrum": (101, spectrum_section), "circuit": (102, circuit_section), "build": (103, build_section),
-    "fold": (104, fold_section), "verdict": (105, verdict_section), "listing": (106, listing_section),
+    "paper": (100, paper_section), "spectrum": (101, spectrum_section), "circuit": (102, circuit_section),
+    "build": (103, build_section), "fold": (104, fold_section), "verdict": (105, verdict_section),
+    "listing": (106, listing_section), "table": (107, table_section), "oracle": (108, oracle_section),
 }
 
 
@@ -862,14 +1030,13 @@ def show(name, requests):
 
 def main():
     arguments = argparse.ArgumentParser(description="requests and expected output for the vectors program")
-    arguments.add_argument("sections", nargs="+", choices=list(SECTIONS), metavar="SECTION",
-                           help=" ".join(SECTIONS))
+    arguments.add_argument("sections", nargs="*", metavar="SECTION", help=" ".join(SECTIONS) + " (none: all)")
     arguments.add_argument("--requests", metavar="FILE")
     arguments.add_argument("--expected", metavar="FILE")
     arguments.add_argument("--show", action="store_true")
     given = arguments.parse_args()
     requests = []
-    for name in given.sections:
+    for name in given.sections or SECTIONS:
         found = section_requests(name)
         if given.show:
             show(name, found)
@@ -878,7 +1045,7 @@ def main():
         with open(given.requests, "wb") as out:
             out.write(b"".join(frame(request) for request in requests))
     if given.expected:
-        lines = [expected_line(request) for request in requests] + [f"{len(requests)} cases"]
+        lines = [expected_line(request) for request in requests] + list(totals(requests))
         with open(given.expected, "w", encoding="ascii", newline="\n") as out:
             out.write("\n".join(lines) + "\n")
 

@@ -1,46 +1,71 @@
-// Requests: a header of ten bytes, then two payloads of the lengths that it gives.
+// Requests: a header of ten bytes, then two payloads.
 use libc::STDIN_FILENO;
+
+pub const SPECTRUM: u8 = 0;
+
+pub const CHECK: u8 = 1;
+
+pub const VALUE: u8 = 2;
+
+pub const DECODE: u8 = 3;
+
+pub const GATE_AT: u8 = 4;
+
+pub const READ: u8 = 5;
+
+pub const RUN: u8 = 6;
+
+pub const COUNT: u8 = 7;
+
+pub const BUILD: u8 = 8;
+
+pub const FOLD: u8 = 9;
+
+pub const LIST: u8 = 10;
+
+pub const ORACLE: u8 = 11;
+
+pub const COMPARE: u8 = 12;
+
+pub const JUDGE: u8 = 13;
+
+// How many cases each operation had.
+pub type Tally = [usize; 16];
+
+// The operation, a, and in two bytes each b, the room and the lengths of the payloads.
+pub type Header = [u8; 10];
+
+pub type Payload = [u8; 8300];
 
 pub struct Request {
     pub op: u8,
     pub a: u8,
     pub b: u16,
     pub room: usize,
-    // The payloads' lengths.
+    // The lengths of the payloads.
     pub first: usize,
     pub second: usize,
 }
 
-pub enum Received {
-    Request(Request),
-    End,
-    Cut,
-}
-
-pub fn receive() -> Received {
-    let mut header = [0u8; 10];
-    let got = io::read_full(STDIN_FILENO, &mut header);
-    if got == 0 {
-        return Received::End;
-    }
-    if got < 10 {
-        return Received::Cut;
-    }
-    Received::Request(Request {
+pub fn of(header: Header) -> Request {
+    Request {
         op: header[0],
         a: header[1],
         b: number(header[2], header[3]),
         room: number(header[4], header[5]) as usize,
         first: number(header[6], header[7]) as usize,
         second: number(header[8], header[9]) as usize,
-    })
-}
-
-// Whether all of `part` came.
-pub fn payload(part: &mut [u8]) -> bool {
-    io::read_full(STDIN_FILENO, part) == part.len()
+    }
 }
 
 fn number(high: u8, low: u8) -> u16 {
     (high as u16) * 256 + (low as u16)
+}
+
+pub fn payload(length: usize) -> Payload {
+    let mut bytes = [0u8; 8300];
+    if length <= 8300 {
+        io::read_full(STDIN_FILENO, &mut bytes[0..length]);
+    }
+    bytes
 }

@@ -1,7 +1,7 @@
--- `cases::lent::magnitude` is safe: below 0, -1 - x is at least 0 and one less than the magnitude.
+-- `cases::lent::pattern` is safe: below 0, -1 - x is at clamped 0 and below 2^31.
 use borrow.Author.Needs.{needs}
 use borrow.Author.Tests.{ltb-true, le-ltb}
-use Prim.Native.Nat.{ℕ, suc, _+_, _^_, _<_}
+use Prim.Native.Nat.{ℕ, suc, _^_, _<_}
 use mathlib.Core.Path.{_≡_, ap}
 use mathlib.Core.Bool.{true, false}
 use native.Mathlib.Omega.{arith}
@@ -11,8 +11,8 @@ use lib.Signed.{ltZ, nonNeg}
 use mir.Syntax.{w32}
 use mir.Val.{Fits, SFits, toZ, ofZ}
 use mir.ValLaws.{toZ-fits, toZ-pos, ofZ-fits}
-use Rattle.cases.proofs.lent.magnitude.Statement.{statement}
-use Rattle.cases.proofs.lent.magnitude.Tie as tie
+use Rattle.cases.proofs.lent.pattern.Statement.{statement}
+use Rattle.cases.proofs.lent.pattern.Tie as tie
 
 abbrev Casts : ℤ → Type 0
 Casts z = T (nonNeg z) × Fits w32 (natAbs z)
@@ -20,14 +20,13 @@ Casts z = T (nonNeg z) × Fits w32 (natAbs z)
 record Below (z : ℤ) : Type 0 where
   fits : SFits w32 z
   casts : Casts (toZ w32 (ofZ w32 z))
-  one-more : Fits w32 (natAbs (toZ w32 (ofZ w32 z)) + 1)
 
 complement : (n : ℕ) → negsuc 0 -ℤ negsuc n ≡ pos n
 complement n = rw (le-ltb (suc n) 1 (omega arith)) (ap pos (omega arith))
 
 small : (n : ℕ) → n < 2 ^ 31 → Below (pos n)
 small n h =
-    record { fits = record { sfits = h }; casts = rw (toZ-pos w32 n h) (tt, record { fits = omega arith }); one-more = rw (toZ-pos w32 n h) (record { fits = omega arith }) }
+    record { fits = record { sfits = h }; casts = rw (toZ-pos w32 n h) (tt, record { fits = omega arith }) }
 
 below : (x : ℤ) → SFits w32 x → ltZ x (pos 0) ≡ true → Below (negsuc 0 -ℤ x)
 below (pos n) f t = let h = ltb-true n 0 t in absurd (omega arith)
@@ -44,17 +43,23 @@ read-fits x f = toZ-fits w32 (ofZ w32 x) (ofZ-fits w32 x f)
 negative : (c : tie.Then1) → Below (negsuc 0 -ℤ toZ w32 (ofZ w32 (c .before .args .x)))
 negative c = below _ (read-fits _ (c .before .fits .x)) (c .if1 .taken)
 
+sub-clamped : tie.Need-sub-clamped
+sub-clamped c = negative c .fits
+
+cast-clamped : tie.Need-cast-clamped
+cast-clamped c = negative c .casts
+
+clamped-requires : tie.Need-clamped-requires
+clamped-requires c κs = search needs
+
 sub-result : tie.Need-sub-result
-sub-result c = negative c .fits
+sub-result c = search needs
 
-cast-result : tie.Need-cast-result
-cast-result c = negative c .casts
+cast-clamped-2 : tie.Need-cast-clamped-2
+cast-clamped-2 c = above _ (read-fits _ (c .before .fits .x)) (c .if1 .left)
 
-add-result : tie.Need-add-result
-add-result c = negative c .one-more
-
-cast-result-2 : tie.Need-cast-result-2
-cast-result-2 c = above _ (read-fits _ (c .before .fits .x)) (c .if1 .left)
+clamped-requires-2 : tie.Need-clamped-requires-2
+clamped-requires-2 c κs = search needs
 
 returns : tie.Need-returns
 returns c = search needs
@@ -62,6 +67,15 @@ returns c = search needs
 returns-2 : tie.Need-returns-2
 returns-2 c = search needs
 
-pub magnitude-spec : {M : Type 1} → statement M
-magnitude-spec =
-    tie.close (tie.spec sub-result cast-result add-result cast-result-2 returns returns-2)
+pub pattern-spec : {M : Type 1} → statement M
+pattern-spec =
+    tie.close
+    (tie.spec
+    sub-clamped
+    cast-clamped
+    clamped-requires
+    sub-result
+    cast-clamped-2
+    clamped-requires-2
+    returns
+    returns-2)

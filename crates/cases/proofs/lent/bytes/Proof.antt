@@ -1,15 +1,16 @@
 use borrow.Author.Needs.{needs}
 use Prim.Native.Nat.{_-_}
-use mathlib.Core.Path.{_≡_}
-use lib.ListN.{length}
-use Rattle.cases.proofs.lent.fill_u8.Statement.{statement}
-use Rattle.cases.proofs.lent.fill_u8.Tie as tie
+use Rattle.cases.proofs.lent.bytes.Statement.{statement}
+use Rattle.cases.proofs.lent.bytes.Tie as tie
 
 abbrev Inv-loop : tie.InvT-loop
-Inv-loop lent₀ i₀ lent i = length lent ≡ length lent₀
+Inv-loop room lent₀ i₀ lent i = Unit {0}
 
 abbrev μ-loop : tie.MeasureT-loop
-μ-loop lent₀ i₀ lent i = length lent₀ - i
+μ-loop room lent₀ i₀ lent i = room - i
+
+returns : tie.Need-returns Inv-loop μ-loop
+returns c = search needs
 
 loop-holds : tie.Need-loop-holds Inv-loop μ-loop
 loop-holds c = search needs
@@ -17,8 +18,8 @@ loop-holds c = search needs
 start-requires : tie.Need-start-requires Inv-loop μ-loop
 start-requires c κs = search needs
 
-slice-write-lent : tie.Need-slice-write-lent Inv-loop μ-loop
-slice-write-lent c = search needs
+array-write-lent : tie.Need-array-write-lent Inv-loop μ-loop
+array-write-lent c = search needs
 
 add-i : tie.Need-add-i Inv-loop μ-loop
 add-i c = search needs
@@ -29,23 +30,20 @@ loop-less c = search needs
 loop-again : tie.Need-loop-again Inv-loop μ-loop
 loop-again c = search needs
 
-same-length : tie.Need-same-length Inv-loop μ-loop
-same-length c = search needs
+returns-2 : tie.Need-returns-2 Inv-loop μ-loop
+returns-2 c = search needs
 
-returns : tie.Need-returns Inv-loop μ-loop
-returns c = search needs
-
-pub fill-u8-spec : {M : Type 1} → statement M
-fill-u8-spec =
+pub bytes-spec : {M : Type 1} → statement M
+bytes-spec =
     tie.close
     (tie.spec
     Inv-loop
     μ-loop
+    returns
     loop-holds
     start-requires
-    slice-write-lent
+    array-write-lent
     add-i
     loop-less
     loop-again
-    same-length
-    returns)
+    returns-2)

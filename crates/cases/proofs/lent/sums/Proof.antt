@@ -1,15 +1,13 @@
 use borrow.Author.Needs.{needs}
 use Prim.Native.Nat.{_-_}
-use mathlib.Core.Path.{_≡_}
-use lib.ListN.{length}
-use Rattle.cases.proofs.lent.fill_u16.Statement.{statement}
-use Rattle.cases.proofs.lent.fill_u16.Tie as tie
+use Rattle.cases.proofs.lent.sums.Statement.{statement}
+use Rattle.cases.proofs.lent.sums.Tie as tie
 
 abbrev Inv-loop : tie.InvT-loop
-Inv-loop lent₀ i₀ lent i = length lent ≡ length lent₀
+Inv-loop lent₀ i₀ lent i = Unit {0}
 
 abbrev μ-loop : tie.MeasureT-loop
-μ-loop lent₀ i₀ lent i = length lent₀ - i
+μ-loop lent₀ i₀ lent i = 600 - i
 
 loop-holds : tie.Need-loop-holds Inv-loop μ-loop
 loop-holds c = search needs
@@ -23,8 +21,8 @@ cast-lent c = search needs
 mul-lent : tie.Need-mul-lent Inv-loop μ-loop
 mul-lent c = search needs
 
-slice-write-lent : tie.Need-slice-write-lent Inv-loop μ-loop
-slice-write-lent c = search needs
+array-set-from-lent : tie.Need-array-set-from-lent Inv-loop μ-loop
+array-set-from-lent c = search needs
 
 add-i : tie.Need-add-i Inv-loop μ-loop
 add-i c = search needs
@@ -35,14 +33,11 @@ loop-less c = search needs
 loop-again : tie.Need-loop-again Inv-loop μ-loop
 loop-again c = search needs
 
-same-length : tie.Need-same-length Inv-loop μ-loop
-same-length c = search needs
-
 returns : tie.Need-returns Inv-loop μ-loop
 returns c = search needs
 
-pub fill-u16-spec : {M : Type 1} → statement M
-fill-u16-spec =
+pub sums-spec : {M : Type 1} → statement M
+sums-spec =
     tie.close
     (tie.spec
     Inv-loop
@@ -51,9 +46,8 @@ fill-u16-spec =
     start-requires
     cast-lent
     mul-lent
-    slice-write-lent
+    array-set-from-lent
     add-i
     loop-less
     loop-again
-    same-length
     returns)

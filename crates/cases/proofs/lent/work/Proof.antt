@@ -1,15 +1,13 @@
 use borrow.Author.Needs.{needs}
 use Prim.Native.Nat.{_-_}
-use mathlib.Core.Path.{_≡_}
-use lib.ListN.{length}
-use Rattle.cases.proofs.lent.fill_i32.Statement.{statement}
-use Rattle.cases.proofs.lent.fill_i32.Tie as tie
+use Rattle.cases.proofs.lent.work.Statement.{statement}
+use Rattle.cases.proofs.lent.work.Tie as tie
 
 abbrev Inv-loop : tie.InvT-loop
-Inv-loop lent₀ i₀ lent i = length lent ≡ length lent₀
+Inv-loop lent₀ i₀ lent i = Unit {0}
 
 abbrev μ-loop : tie.MeasureT-loop
-μ-loop lent₀ i₀ lent i = length lent₀ - i
+μ-loop lent₀ i₀ lent i = 1100 - i
 
 loop-holds : tie.Need-loop-holds Inv-loop μ-loop
 loop-holds c = search needs
@@ -20,11 +18,11 @@ start-requires c κs = search needs
 cast-lent : tie.Need-cast-lent Inv-loop μ-loop
 cast-lent c = search needs
 
-mul-t3 : tie.Need-mul-t3 Inv-loop μ-loop
-mul-t3 c = search needs
+mul-lent : tie.Need-mul-lent Inv-loop μ-loop
+mul-lent c = search needs
 
-slice-set-from-lent : tie.Need-slice-set-from-lent Inv-loop μ-loop
-slice-set-from-lent c = search needs
+array-write-lent : tie.Need-array-write-lent Inv-loop μ-loop
+array-write-lent c = search needs
 
 add-i : tie.Need-add-i Inv-loop μ-loop
 add-i c = search needs
@@ -35,14 +33,11 @@ loop-less c = search needs
 loop-again : tie.Need-loop-again Inv-loop μ-loop
 loop-again c = search needs
 
-same-length : tie.Need-same-length Inv-loop μ-loop
-same-length c = search needs
-
 returns : tie.Need-returns Inv-loop μ-loop
 returns c = search needs
 
-pub fill-i32-spec : {M : Type 1} → statement M
-fill-i32-spec =
+pub work-spec : {M : Type 1} → statement M
+work-spec =
     tie.close
     (tie.spec
     Inv-loop
@@ -50,10 +45,9 @@ fill-i32-spec =
     loop-holds
     start-requires
     cast-lent
-    mul-t3
-    slice-set-from-lent
+    mul-lent
+    array-write-lent
     add-i
     loop-less
     loop-again
-    same-length
     returns)

@@ -1,26 +1,27 @@
 use borrow.Author.Needs.{needs}
 use Prim.Native.Nat.{_-_}
+use native.Mathlib.Omega.{arith}
 use lib.ListN.{length}
-use Rattle.cases.proofs.line.each_hex.Statement.{statement}
-use Rattle.cases.proofs.line.each_hex.Tie as tie
+use Rattle.cases.proofs.print.each_hex.Statement.{statement}
+use Rattle.cases.proofs.print.each_hex.Tie as tie
 
 abbrev Inv-loop : tie.InvT-loop
-Inv-loop line₀ at «data» next₀ i₀ line next i = Unit {0}
+Inv-loop «data» i₀ i = Unit {0}
 
 abbrev μ-loop : tie.MeasureT-loop
-μ-loop line₀ at «data» next₀ i₀ line next i = length «data» - i
+μ-loop «data» i₀ i = length «data» - i
 
 loop-holds : tie.Need-loop-holds Inv-loop μ-loop
 loop-holds c = search needs
 
-shared-slice-read-wide : tie.Need-shared-slice-read-wide Inv-loop μ-loop
-shared-slice-read-wide c = search needs
+shared-slice-read-print-hex : tie.Need-shared-slice-read-print-hex Inv-loop μ-loop
+shared-slice-read-print-hex c = search needs
 
-wide-requires : tie.Need-wide-requires Inv-loop μ-loop
-wide-requires c κs = search needs
+cast-print-hex : tie.Need-cast-print-hex Inv-loop μ-loop
+cast-print-hex c = omega (arith, c .shared-slice-known2 .given (c .before .before .loop .i))
 
-hex-requires : tie.Need-hex-requires Inv-loop μ-loop
-hex-requires c κs = search needs
+print-hex-requires : tie.Need-print-hex-requires Inv-loop μ-loop
+print-hex-requires c κs = search needs
 
 add-i : tie.Need-add-i Inv-loop μ-loop
 add-i c = search needs
@@ -41,9 +42,9 @@ each-hex-spec =
     Inv-loop
     μ-loop
     loop-holds
-    shared-slice-read-wide
-    wide-requires
-    hex-requires
+    shared-slice-read-print-hex
+    cast-print-hex
+    print-hex-requires
     add-i
     loop-less
     loop-again
