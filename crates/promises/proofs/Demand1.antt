@@ -8,9 +8,9 @@ use mathlib.Core.List.{List, []}
 use lib.ListN.{length}
 use lib.IntN.{ℤ}
 use Rattle.refusal.specs.declared.Refusal.{Refusal}
-use Rattle.refusal.specs.Checks.{Check, Outcome, passed, refused, outcome, settle}
+use Rattle.refusal.specs.Checks.{Check, Outcome, passed, refused, outcome, settle, AllFail}
 use Rattle.refusal.specs.Contract.{Said, values, saidOf, Says, Meets}
-use Rattle.refusal.proofs.Passed.{AllFail, passed-fail, fail-passed}
+use Rattle.refusal.proofs.Passed.{passed-fail, fail-passed}
 use Rattle.refusal.proofs.Contracts.{says-refused, says-values, said-refused}
 use Rattle.table.specs.declared.Checked.{Checked}
 use Rattle.table.specs.Table.{tableChecks, checkedSays, Checks}

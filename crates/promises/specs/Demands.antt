@@ -4,9 +4,8 @@ use mathlib.Core.Path.{_≡_}
 use mathlib.Core.Logic.{_⊎_}
 use mathlib.Core.List.{List}
 use Rattle.refusal.specs.declared.Refusal.{Refusal}
-use Rattle.refusal.specs.Checks.{Check, refused, outcome}
+use Rattle.refusal.specs.Checks.{Check, refused, outcome, AllFail}
 use Rattle.refusal.specs.Contract.{Said, values, saidOf}
-use Rattle.refusal.proofs.Passed.{AllFail}
 
 abbrev pub Answers : {Answer : Type 0} → (Answer → Said) → Answer → Type 0
 Answers said answer = (vs : List ℕ) × (said answer ≡ values vs)

@@ -1,5 +1,5 @@
 -- How a function shows what its checks come to: by going down the list, each test as a fact of numbers.
-use Prim.Native.Nat.{ℕ, _≤_, _<_}
+use Prim.Native.Nat.{ℕ}
 use native.Mathlib.Omega.{arith}
 use mathlib.Core.Path.{_≡_, refl, sym, ap, _∙_}
 use mathlib.Core.Logic.{_⊎_, inl, inr}
@@ -7,19 +7,7 @@ use mathlib.Core.Bool.{Bool, true, false, not, cond}
 use mathlib.Core.List.{List, [], _∷_, _++_}
 use borrow.Author.Tests.{lt-ltb, le-ltb, le-leb, lt-leb, eq-eqb, ne-eqb}
 use Rattle.refusal.specs.declared.Refusal.{Refusal}
-use Rattle.refusal.specs.Checks.{Test, less, atLeast, same, other, holds, Check, Outcome, passed, refused, outcome, settle}
-
-abbrev pub Holds : Test → Type 0
-Holds (less a b) = a < b
-Holds (atLeast a b) = b ≤ a
-Holds (same a b) = a ≡ b
-Holds (other a b) = a ≡ b → ⊥
-
-abbrev pub Fails : Test → Type 0
-Fails (less a b) = b ≤ a
-Fails (atLeast a b) = a < b
-Fails (same a b) = a ≡ b → ⊥
-Fails (other a b) = a ≡ b
+use Rattle.refusal.specs.Checks.{Test, less, atLeast, same, other, holds, Holds, Fails, Check, Outcome, passed, refused, outcome, settle}
 
 pub holds-true : (t : Test) → Holds t → holds t ≡ true
 holds-true (less a b) h = lt-ltb a b h

@@ -6,12 +6,8 @@ use mathlib.Core.Bool.{Bool, true, false, cond}
 use mathlib.Core.List.{List, [], _∷_}
 use borrow.Author.Tests.{ltb-false, leb-false, eqb-false, eqb-true, not-false}
 use lib.Dec.{eqb}
-use Rattle.refusal.specs.Checks.{Test, less, atLeast, same, other, holds, Check, passed, refused, outcome}
-use Rattle.refusal.proofs.Outcomes.{Fails, holds-false}
-
-abbrev pub AllFail : List Check → Type 0
-AllFail [] = Unit {0}
-AllFail (c ∷ cs) = Fails (c .when) × AllFail cs
+use Rattle.refusal.specs.Checks.{Test, less, atLeast, same, other, holds, Check, passed, refused, outcome, Fails, AllFail}
+use Rattle.refusal.proofs.Outcomes.{holds-false}
 
 fails : (t : Test) → holds t ≡ false → Fails t
 fails (less a b) e = ltb-false a b e

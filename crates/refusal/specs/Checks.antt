@@ -1,5 +1,6 @@
 -- 01, "Numbered refusals, in order of checking": a list of checks, and the first of them that holds.
-use Prim.Native.Nat.{ℕ}
+use Prim.Native.Nat.{ℕ, _<_, _≤_}
+use mathlib.Core.Path.{_≡_}
 use mathlib.Core.Bool.{Bool, not, cond}
 use mathlib.Core.List.{List, [], _∷_}
 use lib.Dec.{ltb, leb, eqb}
@@ -19,6 +20,19 @@ holds (atLeast a b) = leb b a
 holds (same a b) = eqb a b
 holds (other a b) = not (eqb a b)
 
+-- a condition as a fact about its numbers: that it holds, and that it fails
+abbrev pub Holds : Test → Type 0
+Holds (less a b) = a < b
+Holds (atLeast a b) = b ≤ a
+Holds (same a b) = a ≡ b
+Holds (other a b) = a ≡ b → ⊥
+
+abbrev pub Fails : Test → Type 0
+Fails (less a b) = b ≤ a
+Fails (atLeast a b) = a < b
+Fails (same a b) = a ≡ b → ⊥
+Fails (other a b) = a ≡ b
+
 -- a row of the table: the refusal that is given when the test holds
 pub record Check : Type 0 where
   pub when : Test
@@ -36,6 +50,11 @@ pub data Outcome : Type 0 where
 unfoldable pub outcome : List Check → Outcome
 outcome [] = passed
 outcome (c ∷ cs) = cond (holds (c .when)) (refused (c .gives)) (outcome cs)
+
+-- no row's test holds
+abbrev pub AllFail : List Check → Type 0
+AllFail [] = Unit {0}
+AllFail (c ∷ cs) = Fails (c .when) × AllFail cs
 
 -- what follows from an outcome: one thing on a refusal, another where all passed
 abbrev pub settle {ℓ} : {A : Type ℓ} → Outcome → (Refusal → A) → A → A
