@@ -1,27 +1,18 @@
 -- What callers of the count know when it answers and when it refuses.
 use Prim.Native.Nat.{ℕ, _+_}
 use native.Mathlib.Omega.{arith}
-use mathlib.Core.Path.{_≡_, refl}
+use mathlib.Core.Path.{_≡_}
 use mathlib.Core.List.{List, [], _∷_}
-use lib.ListN.{length}
 use Rattle.refusal.specs.declared.Refusal.{Refusal}
 use Rattle.refusal.specs.Checks.{passed, refused, outcome}
 use Rattle.refusal.proofs.Contracts.{says-refused, says-values}
-use Rattle.circuit.specs.declared.Gate.{Gate}
-use Rattle.circuit.specs.declared.Gate.the-variants.{Cnot, Phase}
 use Rattle.running.specs.declared.Counted.{Counted}
 use Rattle.running.specs.declared.Counted.the-variants.{Gates, Refused}
 use Rattle.circuit.specs.File.{countOf, gatesOf, fileChecks}
 use Rattle.running.specs.Run.{cnots, phases, score, Counts}
+use Rattle.running.proofs.Counts.{gates-counted}
 use Rattle.circuit.proofs.Decoding.{Bytes}
 use Rattle.circuit.proofs.Files.{good-file, length-gates}
-
--- every gate is a CNOT or a phase gate
-pub gates-counted : (gs : List Gate) → cnots gs + phases gs ≡ length gs
-unfolding cnots phases
-gates-counted [] = refl
-gates-counted (Cnot c t ∷ gs) = let r = gates-counted gs in omega arith
-gates-counted (Phase i a ∷ gs) = let r = gates-counted gs in omega arith
 
 pub record Tallied (f : List ℕ) (c p s : ℕ) : Type 0 where
   pub passes : outcome (fileChecks 0 f) ≡ passed

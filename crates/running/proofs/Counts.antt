@@ -6,6 +6,7 @@ use mathlib.Core.Bool.{Bool, true, false, not}
 use mathlib.Core.Path.{_≡_, refl, sym, ap}
 use mathlib.Core.List.{List, [], _∷_}
 use lib.Dec.{eqb}
+use lib.ListN.{length}
 use Rattle.numbers.specs.Bits.{indicator}
 use Rattle.circuit.specs.declared.Gate.{Gate}
 use Rattle.circuit.specs.declared.Gate.the-variants.{Cnot, Phase}
@@ -16,27 +17,24 @@ unfolding cnots
 cnots-cons (Cnot c t) gs = refl
 cnots-cons (Phase i a) gs = sym (zero-add (cnots gs))
 
-pub phases-cons : (g : Gate) (gs : List Gate) → phases (g ∷ gs) ≡ phases (g ∷ []) + phases gs
-unfolding phases
-phases-cons (Cnot c t) gs = sym (zero-add (phases gs))
-phases-cons (Phase i a) gs = refl
-
 pub score-cons : (g : Gate) (gs : List Gate) → score (g ∷ gs) ≡ score (g ∷ []) + score gs
 unfolding score
 score-cons (Cnot c t) gs = sym (zero-add (score gs))
 score-cons (Phase i a) gs = ap (_+ score gs) (sym (add-zero (indicator (not (eqb a 0)))))
 
--- a gate is a CNOT or a phase gate, and only a phase gate scores
-pub one-gate : (g : Gate) → cnots (g ∷ []) + phases (g ∷ []) ≡ 1
-unfolding cnots phases
-one-gate (Cnot c t) = refl
-one-gate (Phase i a) = refl
-
-pub scored-phase : (g : Gate) → score (g ∷ []) ≤ phases (g ∷ [])
-unfolding score phases
-scored-phase (Cnot c t) = omega arith
-scored-phase (Phase i a) = let h = at-most (not (eqb a 0)) in omega arith
+-- a gate is a CNOT, or may score, and not both
+pub one-counted : (g : Gate) → cnots (g ∷ []) + score (g ∷ []) ≤ 1
+unfolding cnots score
+one-counted (Cnot c t) = omega arith
+one-counted (Phase i a) = let h = at-most (not (eqb a 0)) in omega arith
   where
     at-most : (b : Bool) → indicator b ≤ 1
     at-most true = omega arith
     at-most false = omega arith
+
+-- every gate is a CNOT or a phase gate
+pub gates-counted : (gs : List Gate) → cnots gs + phases gs ≡ length gs
+unfolding cnots phases
+gates-counted [] = refl
+gates-counted (Cnot c t ∷ gs) = let r = gates-counted gs in omega arith
+gates-counted (Phase i a ∷ gs) = let r = gates-counted gs in omega arith

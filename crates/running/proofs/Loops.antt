@@ -1,5 +1,5 @@
 -- The loops over a good file's gates, by what the rest of the list still does.
-use Prim.Native.Nat.{ℕ, suc, _+_, _%_, _^_, _<_, _≤_}
+use Prim.Native.Nat.{ℕ, suc, _+_, _-_, _%_, _^_, _<_, _≤_}
 use native.Mathlib.Nat.{zero-add, add-zero, add-assoc, mod-add-mod, mod-eq-of-lt}
 use native.Mathlib.Numerals.{add-one}
 use native.Mathlib.Omega.{arith}
@@ -15,9 +15,9 @@ use Rattle.running.specs.declared.Counted.the-variants.{Gates}
 use Rattle.circuit.specs.Gates.{Sound}
 use Rattle.circuit.specs.File.{wiresOf, countOf, gatesOf, gateAt, fileChecks}
 use Rattle.running.specs.Run.{stepped, added, endFrom, totalFrom, phaseFrom, cnots, phases, score}
-use Rattle.running.proofs.Counts.{cnots-cons, phases-cons, score-cons, one-gate, scored-phase}
+use Rattle.running.proofs.Counts.{cnots-cons, score-cons, one-counted, gates-counted}
 use Rattle.circuit.proofs.Decoding.{Bytes, sound-wider}
-use Rattle.circuit.proofs.Files.{good-file, gate-next, gate-not-bad, gates-end}
+use Rattle.circuit.proofs.Files.{good-file, length-gates, gate-next, gate-not-bad, gates-end}
 use Rattle.running.proofs.Runs.{end-cons, end-none, total-cons, total-none}
 
 -- a run at position i: the rest of the gates still takes it to the end and the total
@@ -27,18 +27,16 @@ pub record Running (f : List ℕ) (start state phase i : ℕ) : Type 0 where
   pub small : phase < 65536
 
 -- a count at position i
-pub record Counting (f : List ℕ) (c p s i : ℕ) : Type 0 where
+pub record Counting (f : List ℕ) (c s i : ℕ) : Type 0 where
   pub cnots-left : c + cnots (drop i (gatesOf f)) ≡ cnots (gatesOf f)
-  pub phases-left : p + phases (drop i (gatesOf f)) ≡ phases (gatesOf f)
   pub scored-left : s + score (drop i (gatesOf f)) ≡ score (gatesOf f)
-  pub few : c + p ≡ i
-  pub scored : s ≤ p
+  pub few : c + s ≤ i
 
 pub run-starts : (f : List ℕ) (start : ℕ) → Running f start start 0 0
 run-starts f start = record { ends = refl; totals = ap (_% 65536) (zero-add (totalFrom (gatesOf f) start)); small = omega arith }
 
-pub count-starts : (f : List ℕ) → Counting f 0 0 0 0
-count-starts f = record { cnots-left = zero-add (cnots (gatesOf f)); phases-left = zero-add (phases (gatesOf f)); scored-left = zero-add (score (gatesOf f)); few = refl; scored = omega arith }
+pub count-starts : (f : List ℕ) → Counting f 0 0 0
+count-starts f = record { cnots-left = zero-add (cnots (gatesOf f)); scored-left = zero-add (score (gatesOf f)); few = omega arith }
 
 module _ (f : List ℕ) (bytes : Bytes f) (passes : outcome (fileChecks 0 f) ≡ passed) (i : ℕ) where
   next : (q : Placed) → i < countOf f → gateAt f i ≡ Good q → drop i (gatesOf f) ≡ q .gate ∷ drop (suc i) (gatesOf f)
@@ -75,28 +73,25 @@ module _ (f : List ℕ) (bytes : Bytes f) (passes : outcome (fileChecks 0 f) ≡
       ap₂ End (sym (ap (λ (gs : List Gate). endFrom gs state) (last h) ∙ end-none state) ∙ r .ends)
       (sym (ap (λ (gs : List Gate). (phase + totalFrom gs state) % 65536) (last h) ∙ ap (λ (n : ℕ). (phase + n) % 65536) (total-none state) ∙ ap (_% 65536) (add-zero phase) ∙ mod-eq-of-lt (r .small)) ∙ r .totals)
 
-  pub count-goes-on : (c p s dc dp ds : ℕ) (q : Placed) → i < countOf f → gateAt f i ≡ Good q
-      → dc ≡ cnots (q .gate ∷ []) → dp ≡ phases (q .gate ∷ []) → ds ≡ score (q .gate ∷ [])
-      → Counting f c p s i → Counting f (c + dc) (p + dp) (s + ds) (i + 1)
-  count-goes-on c p s dc dp ds q h e hc hp hs r =
+  pub count-goes-on : (c s dc ds : ℕ) (q : Placed) → i < countOf f → gateAt f i ≡ Good q → dc ≡ cnots (q .gate ∷ []) → ds ≡ score (q .gate ∷ [])
+      → Counting f c s i → Counting f (c + dc) (s + ds) (i + 1)
+  count-goes-on c s dc ds q h e hc hs r =
       let d = next q h e in
       let rest = drop (suc i) (gatesOf f) in
-      let one = one-gate (q .gate) in
-      let less = scored-phase (q .gate) in
+      let one = one-counted (q .gate) in
       rw (add-one i)
       (record {
         cnots-left = add-assoc c dc (cnots rest) ∙ ap (c +_) (ap (_+ cnots rest) hc ∙ sym (cnots-cons (q .gate) rest) ∙ ap cnots (sym d)) ∙ r .cnots-left;
-        phases-left = add-assoc p dp (phases rest) ∙ ap (p +_) (ap (_+ phases rest) hp ∙ sym (phases-cons (q .gate) rest) ∙ ap phases (sym d)) ∙ r .phases-left;
         scored-left = add-assoc s ds (score rest) ∙ ap (s +_) (ap (_+ score rest) hs ∙ sym (score-cons (q .gate) rest) ∙ ap score (sym d)) ∙ r .scored-left;
         few = omega (arith, r .few);
-        scored = omega (arith, r .scored);
       })
 
-  pub count-ends : (c p s : ℕ) → countOf f ≤ i → Counting f c p s i → Gates c p s ≡ Gates (cnots (gatesOf f)) (phases (gatesOf f)) (score (gatesOf f))
-  unfolding cnots phases score
-  count-ends c p s h r =
+  -- what is no CNOT is a phase gate
+  pub count-ends : (c s g : ℕ) → g ≡ countOf f → countOf f ≤ i → Counting f c s i → Gates c (g - c) s ≡ Gates (cnots (gatesOf f)) (phases (gatesOf f)) (score (gatesOf f))
+  unfolding cnots score
+  count-ends c s g eg h r =
       let l = last h in
       let x : c ≡ cnots (gatesOf f) = sym (ap (λ (gs : List Gate). c + cnots gs) l ∙ add-zero c) ∙ r .cnots-left in
-      let y : p ≡ phases (gatesOf f) = sym (ap (λ (gs : List Gate). p + phases gs) l ∙ add-zero p) ∙ r .phases-left in
+      let y : g - c ≡ phases (gatesOf f) = omega (arith, x, eg, gates-counted (gatesOf f), length-gates f bytes (good-file 0 f passes)) in
       let z : s ≡ score (gatesOf f) = sym (ap (λ (gs : List Gate). s + score gs) l ∙ add-zero s) ∙ r .scored-left in
       λ j. Gates (x j) (y j) (z j)

@@ -2,16 +2,16 @@ use Prim.Native.Nat.{_-_, _≤_}
 use native.Mathlib.Omega.{arith}
 use mathlib.Core.Path.{sym, _∙_}
 use borrow.Author.Needs.{needs}
-use Rattle.running.proofs.Counts.{one-gate, scored-phase}
+use Rattle.running.proofs.Counts.{one-counted}
 use Rattle.running.proofs.Loops.{Counting, count-starts, never-bad, count-goes-on, count-ends}
 use Rattle.running.proofs.counter.count_gates.Statement.{statement}
 use Rattle.running.proofs.counter.count_gates.Tie as tie
 
 abbrev Inv-loop : tie.InvT-loop
-Inv-loop file gates cnots₀ phases₀ score₀ i₀ cnots phases score i = (i ≤ gates) × Counting file cnots phases score i
+Inv-loop file gates cnots₀ score₀ i₀ cnots score i = (i ≤ gates) × Counting file cnots score i
 
 abbrev μ-loop : tie.MeasureT-loop
-μ-loop file gates cnots₀ phases₀ score₀ i₀ cnots phases score i = gates - i
+μ-loop file gates cnots₀ score₀ i₀ cnots score i = gates - i
 
 loop-holds : tie.Need-loop-holds Inv-loop μ-loop
 loop-holds c = (omega arith, count-starts (c .before .args .file .now))
@@ -35,21 +35,13 @@ one-cnot-requires : tie.Need-one-cnot-requires Inv-loop μ-loop
 one-cnot-requires c κs = search needs
 
 add-cnots : tie.Need-add-cnots Inv-loop μ-loop
-add-cnots c = omega (arith, one-gate (c .before .before .placed .given .0 .0 .gate))
-
-one-phase-requires : tie.Need-one-phase-requires Inv-loop μ-loop
-one-phase-requires c κs = search needs
-
-add-phases : tie.Need-add-phases Inv-loop μ-loop
-add-phases c = omega (arith, one-gate (c .before .before .before .placed .given .0 .0 .gate))
+add-cnots c = omega (arith, one-counted (c .before .before .placed .given .0 .0 .gate))
 
 one-scored-requires : tie.Need-one-scored-requires Inv-loop μ-loop
 one-scored-requires c κs = search needs
 
 add-score : tie.Need-add-score Inv-loop μ-loop
-add-score c =
-    let g = c .before .before .before .before .placed .given .0 .0 .gate in
-    omega (arith, one-gate g, scored-phase g)
+add-score c = omega (arith, one-counted (c .before .before .before .placed .given .0 .0 .gate))
 
 add-i : tie.Need-add-i Inv-loop μ-loop
 add-i c = omega arith
@@ -59,19 +51,21 @@ loop-less c = omega arith
 
 loop-again : tie.Need-loop-again Inv-loop μ-loop
 loop-again c =
-    let second = c .before in
-    let first = second .before in
+    let first = c .before in
     let found = first .before .before in
     let got = found .before .before in
     let at = got .before .before in
     let a = at .before .before .args in
-    (omega arith, count-goes-on (a .file .now) (λ j. at .before .shared-slice-known .given j .fits) (at .before .before .pre .0) (at .loop .i) (at .loop .cnots) (at .loop .phases) (at .loop .score) (first .one-cnot .result) (second .one-phase .result) (c .one-scored .result) (found .placed .given .0 .0) (omega arith) (sym (got .gate-at .ensures) ∙ found .placed .given .1) (first .one-cnot .ensures) (second .one-phase .ensures) (c .one-scored .ensures) (at .loop .inv .1))
+    (omega arith, count-goes-on (a .file .now) (λ j. at .before .shared-slice-known .given j .fits) (at .before .before .pre .0) (at .loop .i) (at .loop .cnots) (at .loop .score) (first .one-cnot .result) (c .one-scored .result) (found .placed .given .0 .0) (omega arith) (sym (got .gate-at .ensures) ∙ found .placed .given .1) (first .one-cnot .ensures) (c .one-scored .ensures) (at .loop .inv .1))
+
+sub-phases : tie.Need-sub-phases Inv-loop μ-loop
+sub-phases c = omega arith
 
 returns-2 : tie.Need-returns-2 Inv-loop μ-loop
 returns-2 c =
     let at = c .before in
     let a = at .before .before .args in
-    count-ends (a .file .now) (λ j. at .before .shared-slice-known .given j .fits) (at .before .before .pre .0) (at .loop .i) (at .loop .cnots) (at .loop .phases) (at .loop .score) (omega arith) (at .loop .inv .1)
+    count-ends (a .file .now) (λ j. at .before .shared-slice-known .given j .fits) (at .before .before .pre .0) (at .loop .i) (at .loop .cnots) (at .loop .score) (a .gates) (at .before .before .pre .1) (omega arith) (at .loop .inv .1)
 
 pub count-gates-spec : {M : Type 1} → statement M
 count-gates-spec =
@@ -86,11 +80,10 @@ count-gates-spec =
     returns
     one-cnot-requires
     add-cnots
-    one-phase-requires
-    add-phases
     one-scored-requires
     add-score
     add-i
     loop-less
     loop-again
+    sub-phases
     returns-2)
