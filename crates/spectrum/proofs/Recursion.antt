@@ -4,11 +4,11 @@ use native.Mathlib.Omega.{arith}
 use mathlib.Core.Path.{_≡_, sym, ap, ap₂, subst, subst₂, _∙_}
 use mathlib.Core.List.{List, _++_}
 use lib.ListN.{length, take, drop, length-append, length-drop}
-use lib.Seq.{length-take-le, length-front}
+use lib.Seq.{length-take-le}
 use lib.Pow.{pow-pos}
 use lib.IntN.{ℤ}
 use borrow.Rule.Slice.PartMut.{putMid, same-len-mid}
-use Rattle.numbers.proofs.Parts.{second-part, both-parts}
+use Rattle.numbers.proofs.Parts.{second-part, both-parts, half-fits, row-long}
 use Rattle.spectrum.specs.Transform.{transformed, mixed, Tame, Paired}
 use Rattle.spectrum.proofs.Halves.{halves, by-halves, length-transformed, transformed-one}
 use Rattle.spectrum.proofs.Bounds.{half-bits, tame-first, tame-second, halves-paired}
@@ -26,25 +26,13 @@ module _ (v : List ℤ) (half : ℕ) (d : half ≡ length v / 2) (p : 0 < half) 
       by : (m : ℕ) × (t .bits ≡ suc m) × (half ≡ 2 ^ m) → Tame (take half v)
       by (m, e, h) = rw h (tame-first v m (t .long ∙ ap (λ (k : ℕ). 2 ^ k) e) t)
 
-  pub first-falls : length (take half v) < length v
-  first-falls = omega (arith, length-take-le half v (omega arith))
-
   module _ (a : List ℤ) (la : length a ≡ length (take half v)) where
-    fits : half ≤ length v
-    fits = omega arith
-
-    pub row-long : length (a ++ drop half v) ≡ length v
-    row-long = length-front v a half la
-
-    pub second-falls : length (take (length (a ++ drop half v) - half) (drop half (a ++ drop half v))) < length v
-    second-falls = omega (arith, ap length (second-part v a half fits la), length-drop half v)
-
     -- and the second
     pub second-call : Tame v → Tame (take (length (a ++ drop half v) - half) (drop half (a ++ drop half v)))
     second-call t = by (half-bits (t .bits) (length v) half (t .long) d p)
       where
         by : (m : ℕ) × (t .bits ≡ suc m) × (half ≡ 2 ^ m) → Tame (take (length (a ++ drop half v) - half) (drop half (a ++ drop half v)))
-        by (m, e, h) = subst Tame (ap (λ (k : ℕ). drop k v) (sym h) ∙ sym (second-part v a half fits la)) (tame-second v m (t .long ∙ ap (λ (k : ℕ). 2 ^ k) e) t)
+        by (m, e, h) = subst Tame (ap (λ (k : ℕ). drop k v) (sym h) ∙ sym (second-part v a half (half-fits v half d p) la)) (tame-second v m (t .long ∙ ap (λ (k : ℕ). 2 ^ k) e) t)
 
     module _ (b : List ℤ) (ea : (n : ℕ) → length (take half v) ≡ 2 ^ n → a ≡ transformed n (take half v))
         (eb : (n : ℕ) → length (take (length (a ++ drop half v) - half) (drop half (a ++ drop half v))) ≡ 2 ^ n
@@ -56,9 +44,9 @@ module _ (v : List ℤ) (half : ℕ) (d : half ≡ length v / 2) (p : 0 < half) 
       joined-halves : (m : ℕ) → length v ≡ 2 ^ suc m → half ≡ 2 ^ m → joined ≡ halves m v
       unfolding halves
       joined-halves m e h =
-          let rest = second-part v a half fits la in
-          both-parts v a half fits la b
-          ∙ ap₂ _++_ (ea m (length-take-le half v fits ∙ h) ∙ ap (λ (k : ℕ). transformed m (take k v)) h)
+          let rest = second-part v a half (half-fits v half d p) la in
+          both-parts v a half (half-fits v half d p) la b
+          ∙ ap₂ _++_ (ea m (length-take-le half v (half-fits v half d p) ∙ h) ∙ ap (λ (k : ℕ). transformed m (take k v)) h)
           (eb m (ap length rest ∙ length-drop half v ∙ omega arith) ∙ ap (transformed m) rest ∙ ap (λ (k : ℕ). transformed m (drop k v)) h)
 
       length-halves : (m : ℕ) → length (halves m v) ≡ 2 ^ m + 2 ^ m
@@ -76,7 +64,7 @@ module _ (v : List ℤ) (half : ℕ) (d : half ≡ length v / 2) (p : 0 < half) 
               (ap (λ (k : ℕ). k + k) h ∙ sym (ap length j ∙ length-halves m), subst₂ Paired (sym h) (sym j) (halves-paired v m l t))
 
       pub joined-long : length b ≡ length (take (length (a ++ drop half v) - half) (drop half (a ++ drop half v))) → length joined ≡ length v
-      joined-long k = same-len-mid half (length (a ++ drop half v) - half) (a ++ drop half v) b k ∙ row-long
+      joined-long k = same-len-mid half (length (a ++ drop half v) - half) (a ++ drop half v) b k ∙ row-long v half d p a la
 
       -- and what that gives is the transform
       pub mix-gives : (u : List ℤ) → u ≡ mixed half joined → (n : ℕ) → length v ≡ 2 ^ n → u ≡ transformed n v

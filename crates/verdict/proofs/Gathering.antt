@@ -6,14 +6,14 @@ use mathlib.Core.Path.{_≡_, sym, ap, ap₂, _∙_}
 use mathlib.Core.Bool.{Bool, true, false}
 use mathlib.Core.List.{List, _++_}
 use lib.ListN.{length, take, drop, length-drop, List·getD-append}
-use lib.Seq.{length-take-le, length-front, getD-take, getD-drop, getD-append-add}
+use lib.Seq.{length-take-le, getD-take, getD-drop, getD-append-add}
 use lib.Pow.{pow-pos}
 use borrow.Rule.Slice.PartMut.{putMid, same-len-mid}
 use Rattle.numbers.specs.Bits.{subset}
 use Rattle.numbers.specs.Sums.{sum, list}
 use Rattle.numbers.proofs.Sums.{sumOf-ext}
 use Rattle.numbers.proofs.Lists.{length-list, getD-list, is-list, list-ext, list-split}
-use Rattle.numbers.proofs.Parts.{second-part, both-parts}
+use Rattle.numbers.proofs.Parts.{second-part, both-parts, half-fits, row-long}
 use Rattle.numbers.proofs.Subsets.{subset-none, subset-low-high, subset-high-low, subset-high-high, sum-zero, sum-halves}
 use Rattle.verdict.specs.Working.{entry, counts, gathered, mixed}
 
@@ -123,26 +123,14 @@ one-entry up v b h zero e = is-list 0 v 1 (λ s. sumAround up 0 (entry v) s % 65
         rw z (sym (ap (_% 65536) (zero-add (counts up 0 0 * entry v 0) ∙ ap (_* entry v 0) (self up) ∙ one-mul (entry v 0)) ∙ mod-eq-of-lt b))
 
 module _ (up : Bool) (v : List ℕ) (half : ℕ) (d : half ≡ length v / 2) (p : 0 < half) where
-  pub first-falls : length (take half v) < length v
-  first-falls = omega (arith, length-take-le half v (omega arith))
-
   module _ (a : List ℕ) (la : length a ≡ length (take half v)) where
-    fits : half ≤ length v
-    fits = omega arith
-
-    pub row-long : length (a ++ drop half v) ≡ length v
-    row-long = length-front v a half la
-
-    pub second-falls : length (take (length (a ++ drop half v) - half) (drop half (a ++ drop half v))) < length v
-    second-falls = omega (arith, ap length (second-part v a half fits la), length-drop half v)
-
     module _ (b : List ℕ) (lb : length b ≡ length (take (length (a ++ drop half v) - half) (drop half (a ++ drop half v)))) where
       -- the row after both
       abbrev joined : List ℕ
       joined = putMid half (length (a ++ drop half v) - half) (a ++ drop half v) b
 
       pub joined-long : length joined ≡ length v
-      joined-long = same-len-mid half (length (a ++ drop half v) - half) (a ++ drop half v) b lb ∙ row-long
+      joined-long = same-len-mid half (length (a ++ drop half v) - half) (a ++ drop half v) b lb ∙ row-long v half d p a la
 
       -- and what adding the halves then gives
       pub mix-gives : ((n : ℕ) → length (take half v) ≡ 2 ^ n → a ≡ gathered up n (take half v))
@@ -153,9 +141,9 @@ module _ (up : Bool) (v : List ℕ) (half : ℕ) (d : half ≡ length v / 2) (p 
       mix-gives ea eb u e zero l = absurd (omega arith)
       mix-gives ea eb u e (suc m) l =
           let h : half ≡ 2 ^ m = omega arith in
-          let rest = second-part v a half fits la in
+          let rest = second-part v a half (half-fits v half d p) la in
           let j : joined ≡ halves up m v =
-          both-parts v a half fits la b
-          ∙ ap₂ _++_ (ea m (length-take-le half v fits ∙ h) ∙ ap (λ (k : ℕ). gathered up m (take k v)) h)
+          both-parts v a half (half-fits v half d p) la b
+          ∙ ap₂ _++_ (ea m (length-take-le half v (half-fits v half d p) ∙ h) ∙ ap (λ (k : ℕ). gathered up m (take k v)) h)
           (eb m (ap length rest ∙ length-drop half v ∙ omega arith) ∙ ap (gathered up m) rest ∙ ap (λ (k : ℕ). gathered up m (drop k v)) h) in
           e (let z : half + half ≡ length v = omega arith in z ∙ sym joined-long) ∙ ap₂ (mixed up) h j ∙ by-halves m v up

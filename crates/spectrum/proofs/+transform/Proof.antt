@@ -3,7 +3,8 @@ use mathlib.Core.Path.{refl, sym, _∙_}
 use native.Mathlib.Omega.{arith}
 use lib.ListN.{length}
 use lib.Seq.{length-take-le}
-use Rattle.spectrum.proofs.Recursion.{one-entry, first-falls, first-call, row-long, second-falls, second-call, joined-long, mix-call, mix-gives}
+use Rattle.numbers.proofs.Parts.{first-falls, row-long, second-falls}
+use Rattle.spectrum.proofs.Recursion.{one-entry, first-call, second-call, joined-long, mix-call, mix-gives}
 use borrow.Fn.Kinds.{In}
 use borrow.Fn.PlainCycle.{Measures, is, falls, and}
 use Rattle.spectrum.proofs.transform.Reads as transform

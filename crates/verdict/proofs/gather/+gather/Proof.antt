@@ -1,7 +1,8 @@
 use mathlib.Core.Path.{refl, sym, _∙_}
 use lib.ListN.{length}
 use lib.Seq.{length-take-le}
-use Rattle.verdict.proofs.Gathering.{one-entry, first-falls, row-long, second-falls, joined-long, mix-gives}
+use Rattle.numbers.proofs.Parts.{first-falls, row-long, second-falls}
+use Rattle.verdict.proofs.Gathering.{one-entry, joined-long, mix-gives}
 use native.Mathlib.Omega.{arith}
 use Prim.Native.Nat.{ℕ, _/_, _<_}
 use borrow.Fn.Kinds.{In}
@@ -44,7 +45,7 @@ gather-gather-requires : (t : ℕ) → gather-lts.Need-gather-requires (
   mix-reads.Asked,
   mix-reads.Learnt,
 ) (gather-at t) gather.Post
-gather-gather-requires t c κs = (omega (arith, first-falls (c .before .before .before .args .up) (c .before .before .before .args .v .now) (length (c .before .before .before .args .v .now) / 2) refl (omega arith)), tt)
+gather-gather-requires t c κs = (omega (arith, first-falls (c .before .before .before .args .v .now) (length (c .before .before .before .args .v .now) / 2) refl (omega arith)), tt)
 
 gather-mul-gather : (t : ℕ) → gather-lts.Need-mul-gather (
   gather-below t,
@@ -63,7 +64,7 @@ gather-sub-gather : (t : ℕ) → gather-lts.Need-sub-gather (
 gather-sub-gather t c =
     let after-gather = c .before .before in
     let start = after-gather .before .before .before .before in
-    omega (arith, row-long (start .args .up) (start .args .v .now) (length (start .args .v .now) / 2) refl (omega arith) (after-gather .gather .last .0) (after-gather .gather .kept .0))
+    omega (arith, row-long (start .args .v .now) (length (start .args .v .now) / 2) refl (omega arith) (after-gather .gather .last .0) (after-gather .gather .kept .0))
 
 gather-part-gather-start : (t : ℕ) → gather-lts.Need-part-gather-start (
   gather-below t,
@@ -74,7 +75,7 @@ gather-part-gather-start : (t : ℕ) → gather-lts.Need-part-gather-start (
 gather-part-gather-start t c =
     let after-gather = c .before .before in
     let start = after-gather .before .before .before .before in
-    omega (arith, row-long (start .args .up) (start .args .v .now) (length (start .args .v .now) / 2) refl (omega arith) (after-gather .gather .last .0) (after-gather .gather .kept .0))
+    omega (arith, row-long (start .args .v .now) (length (start .args .v .now) / 2) refl (omega arith) (after-gather .gather .last .0) (after-gather .gather .kept .0))
 
 gather-part-gather-end : (t : ℕ) → gather-lts.Need-part-gather-end (
   gather-below t,
@@ -93,7 +94,7 @@ gather-gather-requires-2 : (t : ℕ) → gather-lts.Need-gather-requires-2 (
 gather-gather-requires-2 t c κs =
     let after-gather = c .before .before .before in
     let start = after-gather .before .before .before .before in
-    (omega (arith, second-falls (start .args .up) (start .args .v .now) (length (start .args .v .now) / 2) refl (omega arith) (after-gather .gather .last .0) (after-gather .gather .kept .0)), tt)
+    (omega (arith, second-falls (start .args .v .now) (length (start .args .v .now) / 2) refl (omega arith) (after-gather .gather .last .0) (after-gather .gather .kept .0)), tt)
 
 gather-mix-requires : (t : ℕ) → gather-lts.Need-mix-requires (
   gather-below t,
