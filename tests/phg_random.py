@@ -128,8 +128,8 @@ def command(name, words, files, closed):
         return said("wires {} gates {}\n".format(*oracle.read(file_named(words[0], files))))
     if name == "run":
         form(words, 2, 2, "run FILE START")
-        start = number(words[1])
-        return said("end {} phase {}\n".format(*oracle.run(file_named(words[0], files), start)))
+        file, start = file_named(words[0], files), number(words[1])
+        return said("end {} phase {}\n".format(*oracle.run(file, start)))
     if name == "count":
         form(words, 1, 1, "count FILE")
         return said("cnots {} phases {} score {}\n".format(*oracle.count(file_named(words[0], files))))
@@ -146,7 +146,7 @@ def command(name, words, files, closed):
         wrapped, words = split_option(words, "--wrapped")
         form(words, 1, 2, "list [--wrapped] FILE [OUT]")
         text = oracle.listing(file_named(words[0], files), wrapped)
-        return stored(words[1], text, closed) if len(words) == 2 else said(text.decode("ascii"))
+        return stored(words[1], text, closed) if words[1:] not in ([], [""]) else said(text.decode("ascii"))
     raise Complaint(f"{name} is no command: write spectrum, build, read, run, count, fold, compare, "
                     "judge, list or help")
 

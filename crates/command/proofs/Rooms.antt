@@ -45,8 +45,8 @@ module _ (f : List ℕ) (bytes : Bytes f) where
   list-room wrapped =
       roomy (fileChecks 0 f) 65600 (length (listingOfFile wrapped f))
       (λ e.
-        let g = good-file 0 f e in
-        omega (arith, g .count, length-gates f bytes g, listing-short wrapped (wiresOf f) (gatesOf f) (g .few) (file-sound f bytes g)))
+      let g = good-file 0 f e in
+      omega (arith, g .count, length-gates f bytes g, listing-short wrapped (wiresOf f) (gatesOf f) (g .few) (file-sound f bytes g)))
 
 -- the work slice
 abbrev unlike : ℕ → ℕ → List Check

@@ -1,4 +1,5 @@
 // The lines of an answer, on standard output.
+use crate::words;
 use libc::STDOUT_FILENO;
 use refusal::Refusal;
 use verdict::Verdict;
@@ -13,48 +14,33 @@ pub fn number(name: &[u8], x: usize) {
     io::print_decimal(STDOUT_FILENO, x as u64);
 }
 
+// A line of numbers, each behind its name.
+pub fn numbers(names: &[u8], row: &[usize]) {
+    let mut i: usize = 0;
+    while i < row.len() {
+        number(words::word(names, i), row[i]);
+        i += 1;
+    }
+    say(b"\n");
+}
+
 pub fn refused(r: Refusal) {
-    number(b"refused ", r.number as usize);
-    name(r.number);
+    let names =
+        b"\0 VARS\0 TABLE\0 PAD\0 SHORT\0 MARK\0 VERSION\0 WIRES\0 COUNT\0 LENGTH\0 GATE\0 STATE\0 UNLIKE\0 ROOM";
+    let number_of = r.number as usize;
+    number(b"refused ", number_of);
+    say(words::word(names, number_of));
     number(b" side ", r.side as usize);
     number(b" position ", r.position);
-    reason(r.number);
+    reason(number_of);
 }
 
-fn name(refused: u8) {
-    match refused {
-        refusal::VARS => say(b" VARS"),
-        refusal::TABLE => say(b" TABLE"),
-        refusal::PAD => say(b" PAD"),
-        refusal::SHORT => say(b" SHORT"),
-        refusal::MARK => say(b" MARK"),
-        refusal::VERSION => say(b" VERSION"),
-        refusal::WIRES => say(b" WIRES"),
-        refusal::COUNT => say(b" COUNT"),
-        refusal::LENGTH => say(b" LENGTH"),
-        refusal::GATE => say(b" GATE"),
-        refusal::STATE => say(b" STATE"),
-        refusal::UNLIKE => say(b" UNLIKE"),
-        _ => say(b" ROOM"),
-    }
-}
-
-fn reason(refused: u8) {
-    match refused {
-        refusal::VARS => say(b": n is 0 or above 8\n"),
-        refusal::TABLE => say(b": the table's length is wrong\n"),
-        refusal::PAD => say(b": an unused table bit is 1\n"),
-        refusal::SHORT => say(b": the file is under 8 bytes\n"),
-        refusal::MARK => say(b": the mark is wrong\n"),
-        refusal::VERSION => say(b": the version is not 1\n"),
-        refusal::WIRES => say(b": the wires are 0 or above 10\n"),
-        refusal::COUNT => say(b": the gate count is above 2048\n"),
-        refusal::LENGTH => say(b": the file's length is not 8 + 4 times the gate count\n"),
-        refusal::GATE => say(b": some gate is bad\n"),
-        refusal::STATE => say(b": the start is not below 2^w\n"),
-        refusal::UNLIKE => say(b": the wire counts differ\n"),
-        _ => say(b": the room is too small\n"),
-    }
+fn reason(number: usize) {
+    let reasons =
+        b"\0n is 0 or above 8\0the table's length is wrong\0an unused table bit is 1\0the file is under 8 bytes\0the mark is wrong\0the version is not 1\0the wires are 0 or above 10\0the gate count is above 2048\0the file's length is not 8 + 4 times the gate count\0some gate is bad\0the start is not below 2^w\0the wire counts differ\0the room is too small";
+    say(b": ");
+    say(words::word(reasons, number));
+    say(b"\n");
 }
 
 pub fn wrote(length: usize) {
@@ -93,11 +79,13 @@ pub fn verdict(found: Verdict) {
             second,
             phase,
         } => {
-            number(b"different at ", state as usize);
-            number(b" ends ", first as usize);
-            number(b" ", second as usize);
-            number(b" phase ", phase as usize);
-            say(b"\n");
+            let row = [
+                state as usize,
+                first as usize,
+                second as usize,
+                phase as usize,
+            ];
+            numbers(b"different at \0 ends \0 \0 phase ", &row);
         }
     }
 }
@@ -113,22 +101,24 @@ pub fn differences(work: &[u16]) {
 
 fn difference(state: usize, d: u16) {
     if d != 0 {
-        number(b"", state);
-        number(b" ", d as usize);
-        say(b"\n");
+        let row = [state, d as usize];
+        numbers(b"\0 ", &row);
     }
 }
 
 pub fn usage() {
-    say(b"phg spectrum N TABLE                    the spectrum, one number a line\n");
-    say(b"phg build N TABLE OUT                   writes the circuit of the table's oracle\n");
-    say(b"phg read FILE                           wires and gates\n");
-    say(b"phg run FILE START                      end state and phase\n");
-    say(b"phg count FILE                          CNOTs, phase gates and score\n");
-    say(b"phg fold FILE OUT                       folds the phase gates and writes the file\n");
-    say(b"phg compare [--differences] FILE FILE   whether two circuits do the same\n");
-    say(b"phg judge [--differences] N TABLE FILE  whether a circuit is the table's oracle\n");
-    say(b"phg list [--wrapped] FILE [OUT]         the circuit as OpenQASM 2.0\n");
-    say(b"N and START are decimal. TABLE is hexadecimal digits, two a byte, as 08, or @ and a\n");
-    say(b"file's name. The name - is standard input.\n");
+    say(
+        b"phg spectrum N TABLE                    the spectrum, one number a line
+phg build N TABLE OUT                   writes the circuit of the table's oracle
+phg read FILE                           wires and gates
+phg run FILE START                      end state and phase
+phg count FILE                          CNOTs, phase gates and score
+phg fold FILE OUT                       folds the phase gates and writes the file
+phg compare [--differences] FILE FILE   whether two circuits do the same
+phg judge [--differences] N TABLE FILE  whether a circuit is the table's oracle
+phg list [--wrapped] FILE [OUT]         the circuit as OpenQASM 2.0
+N and START are decimal. TABLE is hexadecimal digits, two a byte, as 08, or @ and a
+file's name. The name - is standard input.
+",
+    );
 }

@@ -1,6 +1,6 @@
-// The commands that take circuit files alone.
+// The commands that take a circuit file first.
 use crate::answers;
-use crate::complaints;
+use crate::commands;
 use crate::digits::Number;
 use crate::files;
 use crate::files::Loaded;
@@ -12,113 +12,78 @@ use running::Counted;
 use running::Ran;
 use verdict::Compared;
 ghost use mathlib.Core.Path.{_≡_};
+ghost use Prim.Native.Nat.{_≤_};
 ghost use lib.ListN.{length};
 
-pub fn call(name: &[u8], line: &[u8], errors: i32) {
-    if check::same(name, b"read") {
-        read(line, errors);
-    } else if check::same(name, b"run") {
-        run(line, errors);
-    } else if check::same(name, b"count") {
-        count(line, errors);
-    } else if check::same(name, b"fold") {
-        fold(line, errors);
-    } else if check::same(name, b"compare") {
-        compare(line, errors);
-    } else if check::same(name, b"list") {
-        list(line, errors);
-    } else {
-        complaints::write(errors, name, b" is no command: write spectrum, build, read, run, count, fold, compare, judge, list or help");
+// Its FILE is the word `first`.
+pub fn call(command: usize, line: &[u8], first: usize, errors: i32)
+    requires { ⌜ first ≤ 2 ⌝ }
+{
+    let mut room = files::file_room();
+    let Loaded::Bytes(size) = files::load(words::word(line, first), &mut room, errors) else {
+        return;
+    };
+    let file = files::front(&room, size);
+    let next = words::word(line, first + 1);
+    match command {
+        commands::READ => read(file),
+        commands::RUN => run(file, next, errors),
+        commands::COUNT => count(file),
+        commands::FOLD => fold(file, next, errors),
+        commands::LIST => list(file, first == 2, next, errors),
+        _ => compare(file, next, first == 2, errors),
     }
 }
 
-fn read(line: &[u8], errors: i32) {
-    if words::others(line) != 1 {
-        complaints::form(errors, b"phg read FILE");
-        return;
-    }
-    let mut file = files::file_room();
-    let Loaded::Bytes(size) = files::load(words::word(line, 1), &mut file, errors) else {
-        return;
-    };
-    match circuit::read(files::front(&file, size), 0) {
+fn read(file: &[u8]) {
+    match circuit::read(file, 0) {
         Reading::Refused(r) => answers::refused(r),
         Reading::Circuit { wires, gates } => {
-            answers::number(b"wires ", wires as usize);
-            answers::number(b" gates ", gates);
-            answers::say(b"\n");
+            let row = [wires as usize, gates];
+            answers::numbers(b"wires \0 gates ", &row);
         }
     }
 }
 
-fn run(line: &[u8], errors: i32) {
-    if words::others(line) != 2 {
-        complaints::form(errors, b"phg run FILE START");
-        return;
-    }
-    let Number::Is(start) = files::number(words::word(line, 2), errors) else {
+fn run(file: &[u8], word: &[u8], errors: i32) {
+    let Number::Is(start) = files::number(word, errors) else {
         return;
     };
-    let mut file = files::file_room();
-    let Loaded::Bytes(size) = files::load(words::word(line, 1), &mut file, errors) else {
-        return;
-    };
-    match running::run(files::front(&file, size), start) {
+    match running::run(file, start) {
         Ran::Refused(r) => answers::refused(r),
         Ran::End { state, phase } => {
-            answers::number(b"end ", state as usize);
-            answers::number(b" phase ", phase as usize);
-            answers::say(b"\n");
+            let row = [state as usize, phase as usize];
+            answers::numbers(b"end \0 phase ", &row);
         }
     }
 }
 
-fn count(line: &[u8], errors: i32) {
-    if words::others(line) != 1 {
-        complaints::form(errors, b"phg count FILE");
-        return;
-    }
-    let mut file = files::file_room();
-    let Loaded::Bytes(size) = files::load(words::word(line, 1), &mut file, errors) else {
-        return;
-    };
-    match running::count(files::front(&file, size)) {
+fn count(file: &[u8]) {
+    match running::count(file) {
         Counted::Refused(r) => answers::refused(r),
         Counted::Gates {
             cnots,
             phases,
             score,
         } => {
-            answers::number(b"cnots ", cnots);
-            answers::number(b" phases ", phases);
-            answers::number(b" score ", score);
-            answers::say(b"\n");
+            let row = [cnots, phases, score];
+            answers::numbers(b"cnots \0 phases \0 score ", &row);
         }
     }
 }
 
-fn fold(line: &[u8], errors: i32) {
-    if words::others(line) != 2 {
-        complaints::form(errors, b"phg fold FILE OUT");
-        return;
-    }
-    let mut file = files::file_room();
-    let Loaded::Bytes(size) = files::load(words::word(line, 1), &mut file, errors) else {
-        return;
-    };
+fn fold(file: &[u8], name: &[u8], errors: i32) {
     let mut out = files::file_room();
-    match fold::fold(files::front(&file, size), &mut out) {
+    match fold::fold(file, &mut out) {
         Folded::Refused(r) => answers::refused(r),
         Folded::File {
             length,
             before,
             after,
         } => {
-            if files::store(words::word(line, 2), files::front(&out, length), errors) {
-                answers::number(b"length ", length);
-                answers::number(b" score ", before);
-                answers::number(b" to ", after);
-                answers::say(b"\n");
+            if files::store(name, files::front(&out, length), errors) {
+                let row = [length, before, after];
+                answers::numbers(b"length \0 score \0 to ", &row);
                 answers::wrote(length);
             }
         }
@@ -144,23 +109,13 @@ pub fn compared(found: Compared, differences: bool, work: &[u16]) {
     }
 }
 
-fn compare(line: &[u8], errors: i32) {
-    let differences = check::same(words::word(line, 1), b"--differences");
-    let k = words::first(differences);
-    if words::others(line) != k + 1 {
-        complaints::form(errors, b"phg compare [--differences] FILE FILE");
-        return;
-    }
-    let mut first = files::file_room();
-    let Loaded::Bytes(m) = files::load(words::word(line, k), &mut first, errors) else {
-        return;
-    };
-    let mut second = files::file_room();
-    let Loaded::Bytes(n) = files::load(words::word(line, k + 1), &mut second, errors) else {
+fn compare(file: &[u8], name: &[u8], differences: bool, errors: i32) {
+    let mut room = files::file_room();
+    let Loaded::Bytes(size) = files::load(name, &mut room, errors) else {
         return;
     };
     let mut work = work_room();
-    let found = verdict::compare(files::front(&first, m), files::front(&second, n), &mut work);
+    let found = verdict::compare(file, files::front(&room, size), &mut work);
     compared(found, differences, &work);
 }
 
@@ -171,25 +126,16 @@ fn text_room() -> [u8; 65600]
     [0; 65600]
 }
 
-fn list(line: &[u8], errors: i32) {
-    let wrapped = check::same(words::word(line, 1), b"--wrapped");
-    let k = words::first(wrapped);
-    let others = words::others(line);
-    if others < k || k + 1 < others {
-        complaints::form(errors, b"phg list [--wrapped] FILE [OUT]");
-        return;
-    }
-    let mut file = files::file_room();
-    let Loaded::Bytes(size) = files::load(words::word(line, k), &mut file, errors) else {
-        return;
-    };
+// No name is standard output.
+fn list(file: &[u8], wrapped: bool, name: &[u8], errors: i32) {
     let mut text = text_room();
-    match listing::list(files::front(&file, size), wrapped, &mut text) {
+    match listing::list(file, wrapped, &mut text) {
         Listed::Refused(r) => answers::refused(r),
         Listed::Length(length) => {
-            if others == k {
-                answers::say(files::front(&text, length));
-            } else if files::store(words::word(line, k + 1), files::front(&text, length), errors) {
+            let lines = files::front(&text, length);
+            if name.len() == 0 {
+                answers::say(lines);
+            } else if files::store(name, lines, errors) {
                 answers::wrote(length);
             }
         }

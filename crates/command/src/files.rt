@@ -73,7 +73,11 @@ fn read(name: &[u8], room: &mut [u8]) -> Loaded {
 pub fn load(name: &[u8], room: &mut [u8], errors: i32) -> Loaded {
     let loaded = read(name, room);
     if let Loaded::Failed = loaded {
-        complaints::write(errors, name, b" can't be read: name a file that can, or - for standard input");
+        complaints::write(
+            errors,
+            name,
+            b" can't be read: name a file that can, or - for standard input",
+        );
     }
     loaded
 }
@@ -86,7 +90,11 @@ fn load_table(word: &[u8], room: &mut [u8], errors: i32) -> Loaded {
     if word.len() % 2 == 0 && digits::are_digits(word, 16) {
         return Loaded::Bytes(digits::put_bytes(word, room));
     }
-    complaints::write(errors, word, b" is no table: write hexadecimal digits, two a byte, or @FILE");
+    complaints::write(
+        errors,
+        word,
+        b" is no table: write hexadecimal digits, two a byte, or @FILE",
+    );
     Loaded::Failed
 }
 

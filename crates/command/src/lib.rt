@@ -2,6 +2,7 @@
 // and what is wrong with the call itself to the descriptor `errors`.
 mod answers;
 mod circuits;
+mod commands;
 mod complaints;
 mod digits;
 mod files;
@@ -10,17 +11,23 @@ mod words;
 
 pub fn call(line: &[u8], errors: i32) {
     let name = words::word(line, 0);
-    if check::same(name, b"") {
+    let command = commands::numbered(name);
+    if command == commands::HELP {
         answers::usage();
-    } else if check::same(name, b"help") {
-        answers::usage();
-    } else if check::same(name, b"spectrum") {
-        tables::spectrum(line, errors);
-    } else if check::same(name, b"build") {
-        tables::build(line, errors);
-    } else if check::same(name, b"judge") {
-        tables::judge(line, errors);
+        return;
+    }
+    if commands::HELP < command {
+        complaints::unknown(errors, name);
+        return;
+    }
+    let first = commands::first(command, words::word(line, 1));
+    if !commands::takes(command, first, words::others(line)) {
+        complaints::form(errors, command);
+        return;
+    }
+    if command <= commands::JUDGE {
+        tables::call(command, line, first, errors);
     } else {
-        circuits::call(name, line, errors);
+        circuits::call(command, line, first, errors);
     }
 }

@@ -51,13 +51,6 @@ fn end(line: &[u8]) -> usize
     at
 }
 
-// The first word that is no option.
-pub fn first(has_option: bool) -> usize
-    ensures { λ r. ⌜ r ≤ 2 ⌝ }
-{
-    if has_option { 2 } else { 1 }
-}
-
 // The word k, from 0; empty where there is none.
 pub fn word(line: &[u8], k: usize) -> &[u8]
     ensures { λ r. ⌜ now r ≡ wordAt (now (line .entry)) k ⌝ }

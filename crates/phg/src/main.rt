@@ -41,6 +41,9 @@ fn call(line: &[u8], end: usize) {
         let last = end - 1;
         command::call(&line[..last], libc::STDERR_FILENO);
     } else {
-        io::write_all(libc::STDERR_FILENO, b"phg: these words are too long: write a table as @FILE\n");
+        io::write_all(
+            libc::STDERR_FILENO,
+            b"phg: these words are too long: write a table as @FILE\n",
+        );
     }
 }

@@ -24,7 +24,7 @@ digit-requires : tie.Need-digit-requires Inv-loop μ-loop
 digit-requires c κs = search needs
 
 returns : tie.Need-returns Inv-loop μ-loop
-returns c = 
+returns c =
     let d = c .before in
     let l = d .before .before .before .loop in
     let a = d .before .before .before .before .before .args in
@@ -37,14 +37,14 @@ loop-less : tie.Need-loop-less Inv-loop μ-loop
 loop-less c = search needs
 
 loop-again : tie.Need-loop-again Inv-loop μ-loop
-loop-again c = 
+loop-again c =
     let d = c .before in
     let l = d .before .before .before .loop in
     let a = d .before .before .before .before .before .args in
     (omega arith, sym (digits-on (a .text .now) (l .i) (d .before .before .loop-test .taken) (a .base) (omega (arith, d .digit .ensures, c .if1 .left))) ∙ l .inv .1)
 
 returns-2 : tie.Need-returns-2 Inv-loop μ-loop
-returns-2 c = 
+returns-2 c =
     let l = c .before .loop in
     let a = c .before .before .before .args in
     sym (digits-ended (a .base) (a .text .now) (l .i) (c .loop-test .left)) ∙ l .inv .1

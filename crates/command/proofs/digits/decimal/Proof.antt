@@ -19,7 +19,7 @@ value-requires : tie.Need-value-requires
 value-requires c κs = search needs
 
 returns-3 : tie.Need-returns-3
-returns-3 c = 
+returns-3 c =
     let d = c .before .before in
     a-number (d .before .before .before .args .text .now) (c .value .result) (d .before .if1 .left) (sym (d .are-digits .ensures) ∙ not-false _ (c .before .if2 .left)) (c .value .ensures)
 

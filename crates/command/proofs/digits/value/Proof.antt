@@ -30,16 +30,19 @@ loop-less : tie.Need-loop-less Inv-loop μ-loop
 loop-less c = search needs
 
 loop-again : tie.Need-loop-again Inv-loop μ-loop
-loop-again c = 
+loop-again c =
     let l = c .before .before .before .loop in
     let s = c .before .before .before .before .before .args .text .now in
-    let rest = drop (l .i + 1) s in
-    (omega arith, omega (arith, c .longer .ensures), ap (λ v. min 65535 (valueFrom v rest)) (c .longer .ensures)
-    ∙ value-stops 65535 (10 * l .found + digitOf (getD s (l .i) 0)) rest
-    ∙ ap (min 65535) (sym (value-on s (l .i) (c .before .before .loop-test .taken) (l .found))) ∙ l .inv .2)
+    let rest = drop (l .i + 1) s in (
+      omega arith,
+      omega (arith, c .longer .ensures),
+      ap (λ v. min 65535 (valueFrom v rest)) (c .longer .ensures)
+          ∙ value-stops 65535 (10 * l .found + digitOf (getD s (l .i) 0)) rest
+          ∙ ap (min 65535) (sym (value-on s (l .i) (c .before .before .loop-test .taken) (l .found))) ∙ l .inv .2,
+    )
 
 returns : tie.Need-returns Inv-loop μ-loop
-returns c = 
+returns c =
     let l = c .before .loop in
     let s = c .before .before .before .args .text .now in
     omega (arith, value-ended (l .found) s (l .i) (c .loop-test .left), l .inv .1, l .inv .2)

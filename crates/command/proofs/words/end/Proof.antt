@@ -21,7 +21,7 @@ shared-slice-read-if1 : tie.Need-shared-slice-read-if1 Inv-loop μ-loop
 shared-slice-read-if1 c = search needs
 
 returns : tie.Need-returns Inv-loop μ-loop
-returns c = 
+returns c =
     let l = c .before .before .before .loop in
     let h = end-here (c .before .before .before .before .args .line .now) (l .at) (c .before .before .loop-test .taken) (c .if1 .taken) in
     (omega arith, omega arith)
@@ -33,13 +33,13 @@ loop-less : tie.Need-loop-less Inv-loop μ-loop
 loop-less c = search needs
 
 loop-again : tie.Need-loop-again Inv-loop μ-loop
-loop-again c = 
+loop-again c =
     let l = c .before .before .before .loop in
     let h = end-on (c .before .before .before .before .args .line .now) (l .at) (c .before .before .loop-test .taken) (c .if1 .left) in
     (omega arith, omega arith)
 
 returns-2 : tie.Need-returns-2 Inv-loop μ-loop
-returns-2 c = 
+returns-2 c =
     let l = c .before .loop in
     let h = end-ended (c .before .before .args .line .now) (l .at) (c .loop-test .left) in
     (omega arith, omega arith)

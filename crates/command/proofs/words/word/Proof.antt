@@ -25,7 +25,7 @@ slice-aggregate-result : tie.Need-slice-aggregate-result
 slice-aggregate-result c = sym (length-take-le (c .before .end .result) _ (c .before .end .ensures .0))
 
 returns : tie.Need-returns
-returns c = 
+returns c =
     let s = c .before .before .before in
     let a = s .before .before .args in
     word-is (a .line .now) (a .k) (s .start .result) (c .before .end .result) (s .start .ensures .1) (c .before .end .ensures .1)
