@@ -1,0 +1,3 @@
+mod Scans
+pub mod Cuts
+pub mod Rooms
