@@ -11,8 +11,8 @@ use lib.Seq.{length-take-le, take-all, getD-take}
 use lib.Pow.{pow-mono}
 use borrow.Author.Tests.{leb-true, leb-false}
 use Rattle.refusal.specs.Names.{refusal, refusalAt, VARS, TABLE, PAD, SHORT, MARK, VERSION, WIRES, COUNT, LENGTH, GATE}
-use Rattle.refusal.specs.Checks.{Check, check, less, same, other, holds, passed, refused, outcome}
-use Rattle.refusal.proofs.Outcomes.{Fails, holds-false, reaches}
+use Rattle.refusal.specs.Checks.{Check, check, less, same, other, holds, Fails, passed, refused, outcome}
+use Rattle.refusal.proofs.Outcomes.{holds-false, reaches}
 use Rattle.refusal.proofs.Passed.{passed-fail}
 use Rattle.table.specs.Table.{lengthFor, unused, tableChecks}
 use Rattle.circuit.specs.File.{markOf, versionOf, wiresOf, countOf, badOf, fileChecks}
