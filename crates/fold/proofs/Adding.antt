@@ -15,12 +15,12 @@ use Rattle.refusal.specs.Checks.{passed, outcome}
 use Rattle.circuit.specs.declared.Gate.{Gate}
 use Rattle.circuit.specs.declared.Gate.the-variants.{Cnot, Phase}
 use Rattle.circuit.specs.File.{wiresOf, countOf, gatesOf, fileChecks}
-use Rattle.running.specs.Masks.{ownMasks, powers, masksAfter, met, sumMet}
+use Rattle.running.specs.Masks.{ownMasks, powers, masksAfter, met, sumMet, addMet}
 use Rattle.circuit.proofs.Decoding.{Bytes}
 use Rattle.circuit.proofs.Files.{good-file, file-sound, gates-end}
 use Rattle.running.proofs.Masks.{MasksBelow, own-below, after-below, length-after, powers-own, own-alike, sum-alike, sum-none, sum-cons}
 use Rattle.fold.specs.Fold.{groupTotal}
-use Rattle.fold.specs.Totals.{Totals, addedTo}
+use Rattle.fold.specs.Totals.{Totals}
 
 -- what a phase gate of angle a at mask k adds to mask m's total
 abbrev share : ℕ → ℕ → ℕ → ℕ
@@ -84,7 +84,7 @@ each-after totals k a s m l = by (ℕ-discrete m k)
     by (no e) = rw (equal-no (λ p. e (sym p)), getD-set-other totals k m ((getD totals k 0 + a) % 65536) 0 e) (ap (_% 65536) (omega arith))
 
 module _ (f : List ℕ) (i : ℕ) (masks totals : List ℕ) (r : Adding f masks totals i) where
-  rest-adds : (g : Gate) → drop i (gatesOf f) ≡ g ∷ drop (suc i) (gatesOf f) → Adding f (masksAfter g masks) (addedTo (met g masks) totals) (suc i)
+  rest-adds : (g : Gate) → drop i (gatesOf f) ≡ g ∷ drop (suc i) (gatesOf f) → Adding f (masksAfter g masks) (addMet (met g masks) totals) (suc i)
   rest-adds (Cnot c t) d = record {
     wide = length-after (Cnot c t) masks ∙ r .wide;
     below = after-below 10 (Cnot c t) masks (r .below);
@@ -108,5 +108,5 @@ module _ (f : List ℕ) (i : ℕ) (masks totals : List ℕ) (r : Adding f masks 
             ∙ r .each m;
       }
 
-  pub adding-goes-on : (g : Gate) (masks′ totals′ : List ℕ) → drop i (gatesOf f) ≡ g ∷ drop (suc i) (gatesOf f) → masks′ ≡ masksAfter g masks → totals′ ≡ addedTo (met g masks) totals → Adding f masks′ totals′ (i + 1)
+  pub adding-goes-on : (g : Gate) (masks′ totals′ : List ℕ) → drop i (gatesOf f) ≡ g ∷ drop (suc i) (gatesOf f) → masks′ ≡ masksAfter g masks → totals′ ≡ addMet (met g masks) totals → Adding f masks′ totals′ (i + 1)
   adding-goes-on g masks′ totals′ d p q = rw (p, q, add-one i) (rest-adds g d)

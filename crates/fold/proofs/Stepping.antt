@@ -10,10 +10,7 @@ use Rattle.running.specs.declared.Met.{Met}
 use Rattle.running.specs.declared.Met.the-variants.{Mixed, Mask}
 use Rattle.running.specs.Masks.{masksAfter, met, Walked}
 use Rattle.fold.specs.Fold.{kept}
-use Rattle.fold.specs.Totals.{addedTo, found, takenFrom, left}
-
-pub adds : (g : Gate) (masks masks′ totals totals′ : List ℕ) (r x : Met) → Walked g masks masks′ r → r ≡ x → totals′ ≡ addedTo x totals → (masks′ ≡ masksAfter g masks) × (totals′ ≡ addedTo (met g masks) totals)
-adds g masks masks′ totals totals′ r x w e t = (w .leaves, t ∙ ap (λ (y : Met). addedTo y totals) (sym e ∙ w .meets))
+use Rattle.fold.specs.Totals.{found, takenFrom, left}
 
 pub keeps : (i t : ℕ) → (t ≡ 0 → ⊥) → Phase i t ∷ [] ≡ kept i t
 keeps i zero h = absurd (h refl)

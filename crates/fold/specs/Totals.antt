@@ -1,5 +1,5 @@
 -- 01, "Folding", as one pass does it: a row of totals by mask, from which a group's first gate takes the sum.
-use Prim.Native.Nat.{ℕ, _+_, _%_}
+use Prim.Native.Nat.{ℕ}
 use mathlib.Core.Path.{_≡_}
 use mathlib.Core.Bool.{not}
 use mathlib.Core.List.{List, [], _∷_}
@@ -20,11 +20,6 @@ use Rattle.fold.specs.Fold.{groupTotal, kept}
 pub record Totals (f ts : List ℕ) : Type 0 where
   pub long : length ts ≡ 1024
   pub each : (m : ℕ) → getD ts m 0 ≡ groupTotal (wiresOf f) (gatesOf f) m
-
--- "Sums of angles wrap": a gate's angle added to the total of the mask that it meets
-abbrev pub addedTo : Met → List ℕ → List ℕ
-addedTo Mixed ts = ts
-addedTo (Mask m a) ts = set ts m ((getD ts m 0 + a) % 65536)
 
 -- "the wrapped sum of the group" that a gate finds at the mask that it meets
 abbrev pub found : Met → List ℕ → ℕ

@@ -1,34 +1,11 @@
 // The totals of the angles, one for each mask.
 use circuit::Decoded;
-use circuit::Gate;
-use running::Met;
+use running::add_gate;
 ghost use mathlib.Core.Path.{_≡_};
-ghost use Prim.Native.Nat.{_+_, _%_};
-ghost use lib.ListN.{getD, set, replicate};
+ghost use lib.ListN.{replicate};
 ghost use Rattle.refusal.specs.Checks.{outcome, passed};
 ghost use Rattle.circuit.specs.File.{countOf, fileChecks};
-ghost use Rattle.running.specs.Masks.{met, masksAfter};
-ghost use Rattle.fold.specs.Totals.{addedTo, nonzero, nonzeros, Totals};
-
-// Adds an angle to a mask's total, wrapping; a mask that the row does not have changes nothing.
-fn add(totals: &mut [u16], mask: usize, angle: u16)
-    ensures { λ _. ⌜ now (totals .exit) ≡ set (now (totals .entry)) mask ((getD (now (totals .entry)) mask 0 + angle) % 65536) ⌝ }
-{
-    if mask < totals.len() {
-        totals[mask] = std::num::wrapping_add_u16(totals[mask], angle);
-    }
-}
-
-// Adds a gate's angle to the total of the mask that it meets.
-fn add_gate(gate: Gate, masks: &mut [u16], totals: &mut [u16])
-    ensures { λ _. ⌜ now (masks .exit) ≡ masksAfter gate (now (masks .entry)) ⌝ }
-    ensures { λ _. ⌜ now (totals .exit) ≡ addedTo (met gate (now (masks .entry))) (now (totals .entry)) ⌝ }
-{
-    match running::walk(masks, gate) {
-        Met::Mixed => {}
-        Met::Mask { mask, angle } => add(totals, mask as usize, angle),
-    }
-}
+ghost use Rattle.fold.specs.Totals.{nonzero, nonzeros, Totals};
 
 // A total of 0 for each mask; 10 wires have 1,024 masks.
 fn zeros() -> [u16; 1024]

@@ -1,5 +1,5 @@
 -- One gate, as the code does it: the state, the phase, the counts and the masks.
-use Prim.Native.Nat.{ℕ, _*_, _%_, _^_, _<_, _≤_}
+use Prim.Native.Nat.{ℕ, _*_, _%_, _^_, _<_, _≤_, _+_}
 use native.Mathlib.Nat.{mul-one, mul-zero, mod-eq-of-lt, div-eq-of-lt, le-trans}
 use native.Mathlib.Omega.{arith}
 use mathlib.Core.Path.{_≡_, refl, sym, ap, ap₂, subst, _∙_}
@@ -13,8 +13,9 @@ use Rattle.circuit.specs.declared.Gate.{Gate}
 use Rattle.circuit.specs.declared.Gate.the-variants.{Cnot, Phase}
 use Rattle.running.specs.declared.Met.the-variants.{Mixed, Mask}
 use Rattle.running.specs.Run.{stepped, added, score}
-use Rattle.running.specs.Masks.{Walked}
+use Rattle.running.specs.Masks.{Walked, masksAfter, met, addMet}
 use Rattle.running.proofs.Runs.{weight-below}
+use Rattle.running.specs.declared.Met.{Met}
 
 -- above the highest bit there is none
 pub bit-past : (s i : ℕ) → s < 2 ^ 16 → 16 ≤ i → 0 ≡ bit s i
@@ -43,3 +44,11 @@ mixes g before after c t m n e p q r =
 
 pub meets-mask : (g : Gate) (before : List ℕ) (i a m : ℕ) → g ≡ Phase i a → m ≡ getD before i 0 → Walked g before before (Mask m a)
 meets-mask g before i a m e p = subst (λ (h : Gate). Walked h before before (Mask m a)) (sym e) (record { meets = ap (λ (n : ℕ). Mask n a) p; leaves = refl })
+
+-- one gate, as the code does it
+pub mixed-adds : (g : Gate) (ms after : List ℕ) (r : Met) (v : List ℕ) → Walked g ms after r → r ≡ Mixed → (after ≡ masksAfter g ms) × (v ≡ addMet (met g ms) v)
+mixed-adds g ms after r v w e = (w .leaves, ap (λ (m : Met). addMet m v) (sym e ∙ w .meets))
+
+pub mask-adds : (g : Gate) (ms after : List ℕ) (r : Met) (m a : ℕ) (v u : List ℕ) → Walked g ms after r → r ≡ Mask m a → u ≡ set v m ((getD v m 0 + a) % 65536)
+    → (after ≡ masksAfter g ms) × (u ≡ addMet (met g ms) v)
+mask-adds g ms after r m a v u w e p = (w .leaves, p ∙ ap (λ (k : Met). addMet k v) (sym e ∙ w .meets))

@@ -34,6 +34,11 @@ pub record Walked (g : Gate) (before after : List ℕ) (r : Met) : Type 0 where
   pub meets : r ≡ met g before
   pub leaves : after ≡ masksAfter g before
 
+-- "Sums of angles wrap": a phase gate's angle added, in a row with an entry for each mask, at the mask that it meets
+abbrev pub addMet : Met → List ℕ → List ℕ
+addMet Mixed row = row
+addMet (Mask m a) row = set row m ((getD row m 0 + a) % 65536)
+
 -- the masks after all of a list of gates
 unfoldable pub masksFrom : List Gate → List ℕ → List ℕ
 masksFrom [] ms = ms

@@ -7,6 +7,7 @@ mod walker;
 
 pub use counter::count;
 pub use runner::run;
+pub use walker::add_gate;
 pub use walker::own_masks;
 pub use walker::walk;
 

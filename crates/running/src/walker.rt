@@ -2,8 +2,9 @@
 use crate::Met;
 use circuit::Gate;
 ghost use mathlib.Core.Path.{_≡_};
+ghost use Prim.Native.Nat.{_+_, _%_};
 ghost use lib.ListN.{length, getD, set};
-ghost use Rattle.running.specs.Masks.{powers, Walked};
+ghost use Rattle.running.specs.Masks.{powers, met, masksAfter, addMet, Walked};
 
 // A wire's mask, 0 for a wire that is not there.
 fn mask_of(masks: &[u16], wire: u8) -> u16
@@ -49,5 +50,26 @@ pub fn walk(masks: &mut [u16], gate: Gate) -> Met
             let mask = mask_of(masks, wire);
             Met::Mask { mask, angle }
         }
+    }
+}
+
+// One gate of a walk that sums: a phase gate's angle is added, wrapping, at the mask that it meets.
+pub fn add_gate(gate: Gate, masks: &mut [u16], row: &mut [u16])
+    ensures { λ _. ⌜ now (masks .exit) ≡ masksAfter gate (now (masks .entry)) ⌝ }
+    ensures { λ _. ⌜ now (row .exit) ≡ addMet (met gate (now (masks .entry))) (now (row .entry)) ⌝ }
+{
+    match walk(masks, gate) {
+        Met::Mixed => {}
+        Met::Mask { mask, angle } => add_at(row, mask, angle),
+    }
+}
+
+// Changes nothing where the row has no such entry.
+fn add_at(row: &mut [u16], place: u16, angle: u16)
+    ensures { λ _. ⌜ now (row .exit) ≡ set (now (row .entry)) place ((getD (now (row .entry)) place 0 + angle) % 65536) ⌝ }
+{
+    let at = place as usize;
+    if at < row.len() {
+        row[at] = std::num::wrapping_add_u16(row[at], angle);
     }
 }

@@ -20,13 +20,13 @@ use Rattle.running.specs.declared.Met.{Met}
 use Rattle.circuit.specs.Gates.{AllSound}
 use Rattle.circuit.specs.File.{wiresOf, gatesOf, fileChecks}
 use Rattle.running.specs.Run.{endFrom}
-use Rattle.running.specs.Masks.{ownMasks, powers, masksAfter, met, masksFrom, sumMet}
+use Rattle.running.specs.Masks.{ownMasks, powers, masksAfter, met, masksFrom, sumMet, addMet}
 use Rattle.circuit.proofs.Decoding.{Bytes}
 use Rattle.circuit.proofs.Files.{GoodFile, good-file, file-sound}
 use Rattle.running.proofs.Masks.{Alike, own-alike, met-alike, alike-after, own-below, powers-own}
 use Rattle.running.proofs.Meetings.{collected}
 use Rattle.verdict.specs.Coefficients.{coefficient}
-use Rattle.verdict.specs.Working.{entry, addMet, tallied, gathered, weightOf, weighed, column}
+use Rattle.verdict.specs.Working.{entry, tallied, gathered, weightOf, weighed, column}
 use Rattle.verdict.proofs.Polynomials.{sumAt, coefficient-weight}
 use Rattle.verdict.proofs.Tallies.{length-tallied, tallied-at}
 use Rattle.verdict.proofs.Gathering.{sumAround, length-gathered, entry-gathered}

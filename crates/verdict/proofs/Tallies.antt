@@ -20,19 +20,11 @@ use Rattle.circuit.specs.declared.Decoded.the-variants.{Good, Bad}
 use Rattle.running.specs.declared.Met.{Met}
 use Rattle.running.specs.declared.Met.the-variants.{Mixed, Mask}
 use Rattle.circuit.specs.File.{countOf, gatesOf, gateAt, fileChecks}
-use Rattle.running.specs.Masks.{masksAfter, met, masksFrom, sumMet, Walked}
+use Rattle.running.specs.Masks.{masksAfter, met, masksFrom, sumMet, addMet}
 use Rattle.circuit.proofs.Decoding.{Bytes}
 use Rattle.circuit.proofs.Files.{good-file, gate-next, gate-not-bad, gates-end}
 use Rattle.running.proofs.Masks.{MasksBelow, after-below, masks-none, masks-cons}
-use Rattle.verdict.specs.Working.{entry, addMet, tallied}
-
--- one gate, as the code does it
-pub mixed-adds : (g : Gate) (ms after : List ℕ) (r : Met) (v : List ℕ) → Walked g ms after r → r ≡ Mixed → (after ≡ masksAfter g ms) × (v ≡ addMet (met g ms) v)
-mixed-adds g ms after r v w e = (w .leaves, ap (λ (m : Met). addMet m v) (sym e ∙ w .meets))
-
-pub mask-adds : (g : Gate) (ms after : List ℕ) (r : Met) (m a : ℕ) (v u : List ℕ) → Walked g ms after r → r ≡ Mask m a → u ≡ set v m ((entry v m + a) % 65536)
-    → (after ≡ masksAfter g ms) × (u ≡ addMet (met g ms) v)
-mask-adds g ms after r m a v u w e p = (w .leaves, p ∙ ap (λ (k : Met). addMet k v) (sym e ∙ w .meets))
+use Rattle.verdict.specs.Working.{entry, tallied}
 
 pub length-added : (r : Met) (v : List ℕ) → length (addMet r v) ≡ length v
 length-added Mixed v = refl

@@ -7,14 +7,12 @@ use mathlib.Core.List.{List, [], _∷_, _++_}
 use lib.Dec.{ltb}
 use lib.Bits.{bitXor}
 use lib.Count.{ones}
-use lib.ListN.{length, getD, set}
+use lib.ListN.{length, getD}
 use Rattle.numbers.specs.Bits.{bit, subset}
 use Rattle.numbers.specs.Sums.{sum, sumOf, list}
 use Rattle.table.specs.Table.{valueAt}
 use Rattle.circuit.specs.declared.Gate.{Gate}
-use Rattle.running.specs.declared.Met.{Met}
-use Rattle.running.specs.declared.Met.the-variants.{Mixed, Mask}
-use Rattle.running.specs.Masks.{masksAfter, met}
+use Rattle.running.specs.Masks.{masksAfter, met, addMet}
 use Rattle.verdict.specs.declared.Verdict.{Verdict}
 use Rattle.verdict.specs.declared.Verdict.the-variants.{Same, Different}
 use Rattle.verdict.specs.Coefficients.{difference, differences}
@@ -23,11 +21,7 @@ use Rattle.verdict.specs.Verdicts.{Side, verdict}
 abbrev pub entry : List ℕ → ℕ → ℕ
 entry v i = getD v i 0
 
--- angles added at the masks that their gates meet
-abbrev pub addMet : Met → List ℕ → List ℕ
-addMet Mixed v = v
-addMet (Mask m a) v = set v m ((entry v m + a) % 65536)
-
+-- the angles of a list of gates added at the masks that they meet
 unfoldable pub tallied : List Gate → List ℕ → List ℕ → List ℕ
 tallied [] ms v = v
 tallied (g ∷ gs) ms v = tallied gs (masksAfter g ms) (addMet (met g ms) v)

@@ -1,19 +1,18 @@
 // One side summed up: its coefficients, and the end of each single-wire start.
 use crate::gather::gather;
 use circuit::Decoded;
-use circuit::Gate;
-use running::Met;
+use running::add_gate;
 ghost use mathlib.Core.Path.{_≡_};
-ghost use Prim.Native.Nat.{_+_, _*_, _%_, _^_, _≤_, _<_};
+ghost use Prim.Native.Nat.{_*_, _%_, _^_, _≤_, _<_};
 ghost use lib.Count.{ones};
 ghost use lib.ListN.{length, set};
 ghost use Rattle.numbers.specs.Sums.{list};
 ghost use Rattle.refusal.specs.Checks.{outcome, passed};
 ghost use Rattle.circuit.specs.File.{wiresOf, countOf, gatesOf, fileChecks};
-ghost use Rattle.running.specs.Masks.{masksAfter, met, masksFrom};
+ghost use Rattle.running.specs.Masks.{masksFrom};
 ghost use Rattle.running.specs.Run.{endFrom};
 ghost use Rattle.verdict.specs.Coefficients.{coefficient};
-ghost use Rattle.verdict.specs.Working.{entry, addMet, tallied, weightOf, weighed, column};
+ghost use Rattle.verdict.specs.Working.{entry, tallied, weightOf, weighed, column};
 
 // (-2)^(k-1), wrapped, for k from 0 to 10; nothing for 0.
 const WEIGHTS: [u16; 11] = [0, 1, 65534, 4, 65528, 16, 65504, 64, 65408, 256, 65024];
@@ -59,25 +58,6 @@ fn tally(file: &[u8], gates: usize, masks: &mut [u16], v: &mut [u16])
         let gate = placed.gate;
         add_gate(gate, masks, v);
         i += 1;
-    }
-}
-
-fn add_gate(gate: Gate, masks: &mut [u16], v: &mut [u16])
-    ensures { λ _. ⌜ now (masks .exit) ≡ masksAfter gate (now (masks .entry)) ⌝ }
-    ensures { λ _. ⌜ now (v .exit) ≡ addMet (met gate (now (masks .entry))) (now (v .entry)) ⌝ }
-{
-    match running::walk(masks, gate) {
-        Met::Mixed => {}
-        Met::Mask { mask, angle } => add_at(v, mask, angle),
-    }
-}
-
-fn add_at(v: &mut [u16], place: u16, angle: u16)
-    ensures { λ _. ⌜ now (v .exit) ≡ set (now (v .entry)) place ((entry (now (v .entry)) place + angle) % 65536) ⌝ }
-{
-    let at = place as usize;
-    if at < v.len() {
-        v[at] = std::num::wrapping_add_u16(v[at], angle);
     }
 }
 

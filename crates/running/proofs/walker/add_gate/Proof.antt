@@ -1,7 +1,7 @@
-use Rattle.verdict.proofs.Tallies.{mixed-adds, mask-adds}
+use Rattle.running.proofs.Stepping.{mixed-adds, mask-adds}
 use borrow.Author.Needs.{needs}
-use Rattle.verdict.proofs.summary.add_gate.Statement.{statement}
-use Rattle.verdict.proofs.summary.add_gate.Tie as tie
+use Rattle.running.proofs.walker.add_gate.Statement.{statement}
+use Rattle.running.proofs.walker.add_gate.Tie as tie
 
 walk-requires : tie.Need-walk-requires
 walk-requires c κs = search needs
@@ -22,7 +22,7 @@ returns : tie.Need-returns
 returns c =
     let w = c .before .before .before .before in
     let a = w .before .before .before .before .args in
-    mixed-adds (a .gate) (a .masks .now) (w .walk .last .0) (w .walk .result) (a .v .now) (w .walk .ensures) (c .enum-told .given .1)
+    mixed-adds (a .gate) (a .masks .now) (w .walk .last .0) (w .walk .result) (a .row .now) (w .walk .ensures) (c .enum-told .given .1)
 
 same-length-2 : tie.Need-same-length-2
 same-length-2 c = search needs
@@ -40,7 +40,7 @@ returns-2 c =
     let a = start .args in
     let m = after-mask .mask .given in
     let p = after-add-at .add-at in
-    mask-adds (a .gate) (a .masks .now) (w .walk .last .0) (w .walk .result) (m .0 .0) (m .0 .1 .0) (a .v .now) (p .last .0) (w .walk .ensures) (m .1) (p .ensures)
+    mask-adds (a .gate) (a .masks .now) (w .walk .last .0) (w .walk .result) (m .0 .0) (m .0 .1 .0) (a .row .now) (p .last .0) (w .walk .ensures) (m .1) (p .ensures)
 
 pub add-gate-spec : {M : Type 1} → statement M
 add-gate-spec =
