@@ -1,3 +1,4 @@
 mod Scans
 pub mod Cuts
 pub mod Rooms
+pub mod Whole
