@@ -5,7 +5,7 @@ use mathlib.Core.Bool.{true, false}
 use mathlib.Core.List.{List, [], _∷_, _++_}
 use Rattle.listing.specs.Text.{ascii}
 use Rattle.command.specs.declared.digits.Number.the-variants.{Is, Bad}
-use Rattle.command.specs.Words.{separator, separators, fromWord, wordEnd, wordAt}
+use Rattle.command.specs.Words.{separators, fromWord, wordEnd, wordAt}
 use Rattle.command.specs.Digits.{digitOf, allDigits, valueFrom, numberOf, areBytes, bytesOf}
 
 -- run, an empty word, and 5
