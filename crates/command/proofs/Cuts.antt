@@ -1,15 +1,16 @@
 -- The first 8,201 bytes of a file and the first 33 of a table decide: what is read of them is refused as they are, and is all of them where they pass.
-use Prim.Native.Nat.{ℕ, _+_, _-_, _*_, _^_, _<_, _≤_}
+use Prim.Native.Nat.{ℕ, _+_, _-_, _*_, _/_, _<_, min}
 use native.Mathlib.Omega.{arith}
-use mathlib.Core.Path.{_≡_, refl, sym, ap, ap₂, _∙_}
+use mathlib.Core.Path.{_≡_, refl, sym, ap, _∙_}
 use mathlib.Core.Bool.{Bool, true, false, cond}
 use mathlib.Core.Logic.{inl, inr}
-use mathlib.Core.List.{List, [], _∷_}
+use mathlib.Core.List.{List, [], _∷_, _++_}
 use lib.Dec.{leb}
-use lib.ListN.{length, getD, take}
-use lib.Seq.{length-take-le, take-all, getD-take}
+use lib.ListN.{length, getD, take, drop}
+use lib.Seq.{length-take-le, take-all, take-at, getD-take}
 use lib.Pow.{pow-mono}
 use borrow.Author.Tests.{leb-true, leb-false}
+use Rattle.numbers.proofs.Lists.{length-list}
 use Rattle.refusal.specs.Names.{refusal, refusalAt, VARS, TABLE, PAD, SHORT, MARK, VERSION, WIRES, COUNT, LENGTH, GATE}
 use Rattle.refusal.specs.Checks.{Check, check, less, same, other, holds, Fails, passed, refused, outcome}
 use Rattle.refusal.proofs.Outcomes.{holds-false, reaches}
@@ -17,6 +18,7 @@ use Rattle.refusal.proofs.Passed.{passed-fail}
 use Rattle.table.specs.Table.{lengthFor, unused, tableChecks}
 use Rattle.circuit.specs.File.{markOf, versionOf, wiresOf, countOf, badOf, fileChecks}
 use Rattle.circuit.proofs.Files.{good-file}
+use Rattle.command.specs.Digits.{byteAt, bytesOf}
 
 -- two lists that differ only behind a check, and a check that passes
 behind : (c : Check) (xs ys : List Check) → outcome xs ≡ outcome ys → outcome (c ∷ xs) ≡ outcome (c ∷ ys)
@@ -132,3 +134,19 @@ module _ (n : ℕ) (t : List ℕ) where
   table-whole e =
       let g = passed-fail (tableChecks n t) e in
       take-all 33 t (omega (arith, g .1 .1 .0, pow-mono {i = n - 3} {j = 5} (omega (arith, g .1 .0))))
+
+-- the bytes of hexadecimal digits that were put at the front of a room for 33
+pub digits-cut : (s lent : List ℕ) (r : ℕ) → r ≡ min (length s / 2) 33 → take r (take r (bytesOf s) ++ drop r lent) ≡ take 33 (bytesOf s)
+digits-cut s lent r e =
+    let l = length-list (length s / 2) (byteAt s) in
+    take-at (take r (bytesOf s)) (drop r lent) r (length-take-le r (bytesOf s) (omega arith)) ∙ by (leb (length s / 2) 33) refl
+  where
+    by : (t : Bool) → leb (length s / 2) 33 ≡ t → take r (bytesOf s) ≡ take 33 (bytesOf s)
+    by true h =
+        let l = length-list (length s / 2) (byteAt s) in
+        let k = leb-true (length s / 2) 33 h in
+        take-all r (bytesOf s) (omega arith) ∙ sym (take-all 33 (bytesOf s) (omega arith))
+    by false h =
+        let k = leb-false (length s / 2) 33 h in
+        let z : r ≡ 33 = omega arith in
+        ap (λ n. take n (bytesOf s)) z

@@ -1,18 +1,20 @@
 -- What a loop over a word or a line has found, by what is left of it.
-use Prim.Native.Nat.{ℕ, zero, suc, _+_, _-_, _*_, _<_, _≤_, min}
+use Prim.Native.Nat.{ℕ, zero, suc, _+_, _-_, _*_, _/_, _%_, _<_, _≤_, min}
 use native.Mathlib.Numerals.{add-one}
 use native.Mathlib.Omega.{arith}
 use mathlib.Core.Path.{_≡_, refl, sym, ap, ap₂, _∙_}
 use mathlib.Core.Bool.{Bool, true, false, cond}
-use mathlib.Core.List.{List, [], _∷_}
+use mathlib.Core.List.{List, [], _∷_, _++_}
 use lib.Dec.{leb}
 use lib.ListN.{length, getD, take, drop, drop-of-length-le}
-use lib.Seq.{drop-cons}
+use lib.Seq.{drop-cons, take-at}
 use borrow.Author.Tests.{lt-ltb, le-ltb, le-leb, lt-leb, leb-true, leb-false, eq-eqb, ne-eqb}
+use Rattle.numbers.specs.Sums.{list}
 use Rattle.numbers.proofs.Rows.{end-part}
+use Rattle.numbers.proofs.Lists.{length-list, list-split, filled}
 use Rattle.command.specs.Words.{separator, separators, fromWord, wordEnd, wordAt}
 use Rattle.command.specs.declared.digits.Number.the-variants.{Is, Bad}
-use Rattle.command.specs.Digits.{digitOf, allDigits, valueFrom, numberOf}
+use Rattle.command.specs.Digits.{digitOf, allDigits, valueFrom, numberOf, areBytes, byteAt, bytesOf}
 
 -- at the end nothing is left
 pub ended : (s : List ℕ) (i : ℕ) → length s ≤ i → drop i s ≡ []
@@ -141,3 +143,19 @@ pub word-is : (s : List ℕ) (k from to : ℕ) → drop from s ≡ fromWord s k 
 word-is s k from to p q =
     let r : take (length s - from) (drop from s) ≡ fromWord s k = end-part s from ∙ p in
     ap₂ take (q ∙ ap wordEnd r) r
+
+-- the two ways out of looking for bytes
+pub even-digits : (s : List ℕ) (b : Bool) → length s % 2 ≡ 0 → b ≡ allDigits 16 s → b ≡ areBytes s
+even-digits s b h e = rw (eq-eqb (length s % 2) 0 h) e
+
+pub odd-digits : (s : List ℕ) → (length s % 2 ≡ 0 → ⊥) → false ≡ areBytes s
+odd-digits s h = rw (ne-eqb (length s % 2) 0 h)
+
+-- the bytes that were put are the first of all
+pub take-list : (r k : ℕ) (f : ℕ → ℕ) → r ≤ k → take r (list k f) ≡ list r f
+take-list r k f h =
+    let e : k ≡ r + (k - r) = omega arith in
+    ap (λ (n : ℕ). take r (list n f)) e ∙ ap (take r) (list-split r (k - r) f) ∙ take-at (list r f) (list (k - r) (λ i. f (r + i))) r (length-list r f)
+
+pub bytes-put : (s l row : List ℕ) (r : ℕ) → r ≤ length s / 2 → row ≡ filled r (byteAt s) l → row ≡ take r (bytesOf s) ++ drop r l
+bytes-put s l row r h e = e ∙ ap (λ m. m ++ drop r l) (sym (take-list r (length s / 2) (byteAt s) h))

@@ -2,8 +2,9 @@
 use Prim.Native.Nat.{ℕ, _+_, _-_, _*_, _/_, _%_, min}
 use mathlib.Core.Bool.{Bool, true, false, cond}
 use mathlib.Core.List.{List, [], _∷_}
-use lib.Dec.{ltb, leb}
+use lib.Dec.{ltb, leb, eqb}
 use lib.ListN.{length, getD}
+use Rattle.numbers.specs.Sums.{list}
 use Rattle.command.specs.declared.digits.Number.{Number}
 use Rattle.command.specs.declared.digits.Number.the-variants.{Is, Bad}
 
@@ -31,6 +32,13 @@ valueFrom v (b ∷ bs) = valueFrom (10 * v + digitOf b) bs
 abbrev pub numberOf : List ℕ → Number
 numberOf s = cond (ltb 0 (length s)) (cond (allDigits 10 s) (Is (min 65535 (valueFrom 0 s))) Bad) Bad
 
--- byte i of hexadecimal digits, two a byte
+-- hexadecimal digits of either case, two a byte: an odd number of them is bad, and so is any other byte
+abbrev pub areBytes : List ℕ → Bool
+areBytes s = cond (eqb (length s % 2) 0) (allDigits 16 s) false
+
+-- byte i of them
 abbrev pub byteAt : List ℕ → ℕ → ℕ
 byteAt s i = digitOf (getD s (2 * i) 0) % 16 * 16 + digitOf (getD s (2 * i + 1) 0) % 16
+
+abbrev pub bytesOf : List ℕ → List ℕ
+bytesOf s = list (length s / 2) (byteAt s)

@@ -27,20 +27,31 @@ pub fn numbers(names: &[u8], row: &[usize]) {
 pub fn refused(r: Refusal) {
     let names =
         b"\0 VARS\0 TABLE\0 PAD\0 SHORT\0 MARK\0 VERSION\0 WIRES\0 COUNT\0 LENGTH\0 GATE\0 STATE\0 UNLIKE\0 ROOM";
-    let number_of = r.number as usize;
-    number(b"refused ", number_of);
-    say(words::word(names, number_of));
+    let row = r.number as usize;
+    number(b"refused ", row);
+    say(words::word(names, row));
     number(b" side ", r.side as usize);
     number(b" position ", r.position);
-    reason(number_of);
+    reason(row);
 }
 
-fn reason(number: usize) {
-    let reasons =
-        b"\0n is 0 or above 8\0the table's length is wrong\0an unused table bit is 1\0the file is under 8 bytes\0the mark is wrong\0the version is not 1\0the wires are 0 or above 10\0the gate count is above 2048\0the file's length is not 8 + 4 times the gate count\0some gate is bad\0the start is not below 2^w\0the wire counts differ\0the room is too small";
-    say(b": ");
-    say(words::word(reasons, number));
-    say(b"\n");
+// The words of a row of document 01's table.
+fn reason(row: usize) {
+    let reasons = b"\0\
+        : n is 0 or above 8\n\0\
+        : the table's length is wrong\n\0\
+        : an unused table bit is 1\n\0\
+        : the file is under 8 bytes\n\0\
+        : the mark is wrong\n\0\
+        : the version is not 1\n\0\
+        : the wires are 0 or above 10\n\0\
+        : the gate count is above 2048\n\0\
+        : the file's length is not 8 + 4 times the gate count\n\0\
+        : some gate is bad\n\0\
+        : the start is not below 2^w\n\0\
+        : the wire counts differ\n\0\
+        : the room is too small\n";
+    say(words::word(reasons, row));
 }
 
 pub fn wrote(length: usize) {

@@ -1,6 +1,7 @@
 // The commands by number, and which words each takes.
 use crate::words;
 ghost use Prim.Native.Nat.{_≤_};
+ghost use Rattle.command.specs.Commands.{Numbered};
 
 // These take a table;
 pub const SPECTRUM: usize = 0;
@@ -25,7 +26,9 @@ pub const FOLD: usize = 8;
 pub const HELP: usize = 9;
 
 // The number of the command of that name: no name is help, and an unknown one is above it.
-pub fn numbered(name: &[u8]) -> usize {
+pub fn numbered(name: &[u8]) -> usize
+    ensures { λ r. ⌜ Numbered (now (name .entry)) r ⌝ }
+{
     if name.len() == 0 {
         return HELP;
     }

@@ -18,7 +18,14 @@ pub fn unknown(errors: i32, name: &[u8]) {
 
 // The words that a command takes.
 pub fn form(errors: i32, command: usize) {
-    let forms =
-        b"spectrum N TABLE\0build N TABLE OUT\0judge [--differences] N TABLE FILE\0compare [--differences] FILE FILE\0list [--wrapped] FILE [OUT]\0read FILE\0run FILE START\0count FILE\0fold FILE OUT";
+    let forms = b"spectrum N TABLE\0\
+        build N TABLE OUT\0\
+        judge [--differences] N TABLE FILE\0\
+        compare [--differences] FILE FILE\0\
+        list [--wrapped] FILE [OUT]\0\
+        read FILE\0\
+        run FILE START\0\
+        count FILE\0\
+        fold FILE OUT";
     write(errors, b"write phg ", words::word(forms, command));
 }

@@ -1,9 +1,9 @@
 // Numbers and bytes from the digits of a word.
 ghost use mathlib.Core.Path.{_≡_};
 ghost use Prim.Native.Nat.{_+_, _*_, _/_, _%_, min};
-ghost use lib.ListN.{length};
-ghost use Rattle.command.specs.Digits.{digitOf, allDigits, valueFrom, numberOf, byteAt};
-ghost use Rattle.numbers.proofs.Lists.{filled};
+ghost use mathlib.Core.List.{_++_};
+ghost use lib.ListN.{length, take, drop};
+ghost use Rattle.command.specs.Digits.{digitOf, allDigits, valueFrom, numberOf, areBytes, bytesOf};
 
 pub enum Number {
     Is(u16),
@@ -88,6 +88,16 @@ pub fn narrow(x: u16) -> u8
     if x < 255 { x as u8 } else { 255 }
 }
 
+// Whether the text is hexadecimal digits, two a byte.
+pub fn are_bytes(text: &[u8]) -> bool
+    ensures { λ r. ⌜ r ≡ areBytes (now (text .entry)) ⌝ }
+{
+    if text.len() % 2 == 0 {
+        return are_digits(text, 16);
+    }
+    false
+}
+
 // The byte of two digits.
 fn pair(high: u8, low: u8) -> u8
     ensures { λ r. ⌜ r ≡ digitOf high % 16 * 16 + digitOf low % 16 ⌝ }
@@ -97,7 +107,7 @@ fn pair(high: u8, low: u8) -> u8
 
 // The bytes of hexadecimal digits, two a byte, at the front of out, as many as it has room for.
 pub fn put_bytes(text: &[u8], out: &mut [u8]) -> usize
-    ensures { λ r. ⌜ (r ≡ min (length (now (text .entry)) / 2) (length (now (out .entry)))) × (now (out .exit) ≡ filled r (byteAt (now (text .entry))) (now (out .entry))) ⌝ }
+    ensures { λ r. ⌜ (r ≡ min (length (now (text .entry)) / 2) (length (now (out .entry)))) × (now (out .exit) ≡ take r (bytesOf (now (text .entry))) ++ drop r (now (out .entry))) ⌝ }
 {
     let mut i: usize = 0;
     while i < text.len() / 2 && i < out.len() {

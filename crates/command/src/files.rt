@@ -87,7 +87,7 @@ fn load_table(word: &[u8], room: &mut [u8], errors: i32) -> Loaded {
     if 0 < word.len() && word[0] == b'@' {
         return load(&word[1..], room, errors);
     }
-    if word.len() % 2 == 0 && digits::are_digits(word, 16) {
+    if digits::are_bytes(word) {
         return Loaded::Bytes(digits::put_bytes(word, room));
     }
     complaints::write(

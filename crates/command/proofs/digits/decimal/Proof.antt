@@ -1,5 +1,4 @@
 use mathlib.Core.Path.{sym, _∙_}
-use native.Mathlib.Omega.{arith}
 use borrow.Author.Tests.{not-true, not-false}
 use Rattle.command.proofs.Scans.{no-digits, no-number, a-number}
 use borrow.Author.Needs.{needs}

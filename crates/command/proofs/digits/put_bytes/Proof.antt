@@ -1,10 +1,11 @@
-use Prim.Native.Nat.{_+_, _-_, _*_, _/_, _≤_}
-use mathlib.Core.Path.{_≡_, refl, sym, ap, _∙_}
+use Prim.Native.Nat.{_-_, _/_, _≤_}
+use mathlib.Core.Path.{_≡_, refl, _∙_}
 use native.Mathlib.Omega.{arith}
 use borrow.Author.Tests.{ltb-true, ltb-false}
 use lib.ListN.{length, length-set}
 use Rattle.numbers.proofs.Lists.{filled, fill-again}
 use Rattle.command.specs.Digits.{byteAt}
+use Rattle.command.proofs.Scans.{bytes-put}
 use borrow.Author.Needs.{needs}
 use Rattle.command.proofs.digits.put_bytes.Statement.{statement}
 use Rattle.command.proofs.digits.put_bytes.Tie as tie
@@ -59,13 +60,17 @@ same-length c = c .before .before .loop .inv .2
 returns : tie.Need-returns Inv-loop μ-loop
 returns c =
     let l = c .before .before .loop in
-    (omega (arith, ltb-false (l .i) (length (l .out)) (c .if1 .left)), l .inv .3)
+    let a = c .before .before .before .before .before .args in
+    (omega (arith, ltb-false (l .i) (length (l .out)) (c .if1 .left)), bytes-put (a .text .now) (a .out .now) (l .out) (l .i) (omega arith) (l .inv .3))
 
 same-length-2 : tie.Need-same-length-2 Inv-loop μ-loop
 same-length-2 c = c .before .loop .inv .2
 
 returns-2 : tie.Need-returns-2 Inv-loop μ-loop
-returns-2 c = (omega arith, c .before .loop .inv .3)
+returns-2 c =
+    let l = c .before .loop in
+    let a = c .before .before .before .before .args in
+    (omega arith, bytes-put (a .text .now) (a .out .now) (l .out) (l .i) (omega arith) (l .inv .3))
 
 pub put-bytes-spec : {M : Type 1} → statement M
 put-bytes-spec =

@@ -1,8 +1,8 @@
 use Prim.Native.Nat.{_+_, _-_, _≤_}
-use mathlib.Core.Path.{_≡_, refl}
+use mathlib.Core.Path.{_≡_}
 use native.Mathlib.Omega.{arith}
 use lib.ListN.{length, drop}
-use Rattle.command.specs.Words.{separator, separators}
+use Rattle.command.specs.Words.{separators}
 use Rattle.command.proofs.Scans.{separators-on, separators-ended}
 use borrow.Author.Needs.{needs}
 use Rattle.command.proofs.words.others.Statement.{statement}

@@ -1,6 +1,5 @@
 use native.Mathlib.Omega.{arith}
 use borrow.Author.Tests.{eq-eqb, ne-eqb}
-use borrow.Author.Needs.{needs}
 use Rattle.command.proofs.words.separates.Statement.{statement}
 use Rattle.command.proofs.words.separates.Tie as tie
 

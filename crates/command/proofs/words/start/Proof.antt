@@ -3,7 +3,7 @@ use mathlib.Core.Path.{_≡_, refl, sym, ap, _∙_}
 use native.Mathlib.Omega.{arith}
 use borrow.Author.Tests.{ltb-true, ltb-false}
 use lib.ListN.{length, drop}
-use Rattle.command.specs.Words.{separator, fromWord}
+use Rattle.command.specs.Words.{fromWord}
 use Rattle.command.proofs.Scans.{from-on, from-done, from-found}
 use borrow.Author.Needs.{needs}
 use Rattle.command.proofs.words.start.Statement.{statement}
