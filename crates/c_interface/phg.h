@@ -1,7 +1,7 @@
 /* phg.h: the operations of document 01 for callers in C and C++.
  *
  * Link target/staticlib/libc_interface.a, which `rt staticlib c_interface` writes. It is for x86-64 Linux, and of the C
- * library it needs memset and its like alone.
+ * library it needs memset alone.
  *
  * Rules that a caller keeps. Under them each function is total: it answers on every input.
  *   - A slice is a pointer and a length in entries. The pointer is valid for that many entries, and aligned for them.
@@ -10,8 +10,7 @@
  *   - What may be written (out, work, answer) overlaps no other slice of the call. Slices that are only read may
  *     overlap one another; compare may be given one file twice.
  *   - The memory stays where it is during the call, and no other thread writes to it, nor reads what may be written.
- * Calls from any thread: there are no globals, nothing is allocated, and nothing is kept after the call. A call takes
- * less than 32 KiB of stack.
+ * Calls from any thread: there are no globals, nothing is allocated, and nothing is kept after the call.
  *
  * The six numbers. answer[0] is 0 on success, and the values follow in answer[1], answer[2], ... as each function
  * says. Otherwise answer[0] is the number of a refusal, answer[1] its side (which of a call's several like inputs is
