@@ -1,5 +1,5 @@
 -- The decoder and the writer of a gate are inverse; the gates of a row of bytes, and the bytes of a row of gates.
-use Prim.Native.Nat.{ℕ, zero, suc, _+_, _*_, _<_, _≤_}
+use Prim.Native.Nat.{ℕ, zero, suc, _+_, _*_, _/_, _%_, _<_, _≤_}
 use native.Mathlib.Nat.{add-zero, add-suc, suc-add}
 use native.Mathlib.Decide.{decLt, ℕ-discrete}
 use native.Mathlib.Omega.{arith}
@@ -14,7 +14,7 @@ use Rattle.circuit.specs.declared.Gate.{Gate}
 use Rattle.circuit.specs.declared.Gate.the-variants.{Cnot, Phase}
 use Rattle.circuit.specs.declared.Placed.{Placed}
 use Rattle.circuit.specs.declared.Decoded.the-variants.{Good, Bad}
-use Rattle.circuit.specs.Gates.{good, decoded, decodedAt, firstBad, gatesFrom, gateBytes, bytesOf, Sound, AllSound}
+use Rattle.circuit.specs.Gates.{good, decoded, decodedAt, gateSaid, saidFrom, firstBad, gatesFrom, gateBytes, bytesOf, Sound, AllSound}
 
 -- every entry is a byte
 abbrev pub Bytes : List ℕ → Type 0
@@ -88,6 +88,19 @@ bytes-decoded w p k a b c q hb hc e = by (four w p k a b c hb hc)
         let r : q ≡ record { position = p; gate = d .0 } = cc (e, d .1 .answer) in
         rw r (d .1 .bytes, refl, d .1 .sound)
 
+-- a gate is what its bytes say
+pub bytes-said : (g : Gate) (k a b c : ℕ) → gateBytes g ≡ k ∷ a ∷ b ∷ c ∷ [] → g ≡ gateSaid k a b c
+bytes-said (Cnot x y) k a b c e =
+    let h : k ≡ 1 = cc e in
+    rw (eq-eqb k 1 h) (cc e)
+bytes-said (Phase i n) k a b c e =
+    let h : k ≡ 2 = cc e in
+    let high : n / 256 ≡ b = cc e in
+    let low : n % 256 ≡ c = cc e in
+    let q : n ≡ b * 256 + c = omega arith in
+    let z : i ≡ a = cc e in
+    rw (ne-eqb k 1 (λ r. omega arith)) (ap₂ Phase z q)
+
 -- the decoder undoes the writer
 pub decoded-bytes : (w p : ℕ) (g : Gate) (rest : List ℕ) → Sound w g → decodedAt w p (gateBytes g ++ rest) ≡ good p g
 unfolding decoded
@@ -118,6 +131,23 @@ next-gate w n p bs h k = by (four w p (getD bs 0 0) (getD bs 1 0) (getD bs 2 0) 
         let g = d .0 in
         let q = first-good w n p bs (record { position = p; gate = g }) (d .1 .answer) in
         (g, record { answer = d .1 .answer; sound = d .1 .sound; bytes = d .1 .bytes }, omega arith, gates-good w n p bs g (d .1 .answer))
+
+-- the gates of n good fours are what their bytes say
+pub said-gates : (w n p : ℕ) (bs : List ℕ) → Bytes bs → p + n ≤ firstBad w n p bs → saidFrom n bs ≡ gatesFrom w n p bs
+unfolding saidFrom gatesFrom
+said-gates w zero p bs h k = refl
+said-gates w (suc n) p bs h k =
+    let d = next-gate w n p bs h k in
+    ap₂ (λ (g : Gate) (gs : List Gate). g ∷ gs) (sym (bytes-said (d .0) (getD bs 0 0) (getD bs 1 0) (getD bs 2 0) (getD bs 3 0) (d .1 .bytes))) (said-gates w n (suc p) (drop 4 bs) (bytes-drop 4 bs h) (d .2)) ∙ sym (d .3)
+
+-- the recursion, where its definition is shut
+pub said-none : (bs : List ℕ) → saidFrom 0 bs ≡ []
+unfolding saidFrom
+said-none bs = refl
+
+pub said-cons : (n : ℕ) (bs : List ℕ) → saidFrom (suc n) bs ≡ gateSaid (getD bs 0 0) (getD bs 1 0) (getD bs 2 0) (getD bs 3 0) ∷ saidFrom n (drop 4 bs)
+unfolding saidFrom
+said-cons n bs = refl
 
 -- the gates of n good fours: as many, each sound, and their bytes are those that were read
 pub record Listed (w n p : ℕ) (bs : List ℕ) : Type 0 where

@@ -3,7 +3,7 @@ use Prim.Native.Nat.{ℕ, suc, _+_, _-_, _*_, _/_, _%_, _<_, _≤_}
 use native.Mathlib.Nat.{zero-add, add-zero}
 use native.Mathlib.Numerals.{add-one}
 use native.Mathlib.Omega.{arith}
-use mathlib.Core.Path.{_≡_, refl, sym, ap, ap₂, subst₂, _∙_}
+use mathlib.Core.Path.{_≡_, refl, sym, ap, ap₂, subst, subst₂, _∙_}
 use mathlib.Core.List.{List, [], _∷_}
 use lib.ListN.{length, getD, drop, length-drop, drop-of-length-le}
 use lib.Seq.{drop-drop, getD-drop}
@@ -17,9 +17,9 @@ use Rattle.circuit.specs.declared.Placed.{Placed}
 use Rattle.circuit.specs.declared.Decoded.the-variants.{Good, Bad}
 use Rattle.circuit.specs.declared.Reading.{Reading}
 use Rattle.circuit.specs.declared.Reading.the-variants.{Circuit, Refused}
-use Rattle.circuit.specs.Gates.{good, decoded, decodedAt, bytesOf, gatesFrom, firstBad, Sound, AllSound}
+use Rattle.circuit.specs.Gates.{good, decoded, decodedAt, gateSaid, saidFrom, gateBytes, bytesOf, gatesFrom, firstBad, Sound, AllSound}
 use Rattle.circuit.specs.File.{markOf, versionOf, wiresOf, countOf, gatesOf, badOf, gateAt, fileChecks, fileOf, Reads}
-use Rattle.circuit.proofs.Decoding.{first-bad, first-good, Bytes, bytes-drop, Listed, listed, gate-at, front, first-written, gates-written, length-bytes}
+use Rattle.circuit.proofs.Decoding.{first-bad, first-good, Bytes, bytes-drop, Listed, listed, gate-at, bytes-said, said-gates, front, first-written, gates-written, length-bytes}
 
 -- the gate at i where its bytes lie in the file, byte by byte, and where they do not
 pub gate-inside : (f : List ℕ) (i : ℕ) → 12 + 4 * i ≤ length f
@@ -122,6 +122,10 @@ module _ (w : ℕ) (gs : List Gate) where
         gates = omega arith;
       })
 
+-- what the bytes at i say
+abbrev pub saidAt : List ℕ → ℕ → Gate
+saidAt f i = gateSaid (getD f (8 + 4 * i) 0) (getD f (8 + 4 * i + 1) 0) (getD f (8 + 4 * i + 2) 0) (getD f (8 + 4 * i + 3) 0)
+
 module _ (f : List ℕ) (bytes : Bytes f) (h : GoodFile f) where
   file-listed : Listed (wiresOf f) (countOf f) 0 (drop 8 f)
   file-listed = listed (wiresOf f) (countOf f) 0 (drop 8 f) (bytes-drop 8 f bytes) (length-drop 8 f ∙ omega (arith, h .whole)) (omega (arith, h .gates))
@@ -157,18 +161,28 @@ module _ (f : List ℕ) (bytes : Bytes f) (h : GoodFile f) where
       (subst₂ (λ (p : ℕ) (bs : List ℕ). decodedAt (wiresOf f) p bs ≡ good p (d .0)) (zero-add i) (drop-drop (4 * i) 8 f) (d .1 .answer)) in
       (d .0, e, d .2, d .1 .sound)
 
-  -- for loops over the gates: what a good answer at i says of the rest of the list, and that no answer is bad
-  pub gate-next : (i : ℕ) (q : Placed) → i < countOf f → gateAt f i ≡ Good q → (drop i (gatesOf f) ≡ q .gate ∷ drop (suc i) (gatesOf f)) × (q .position ≡ i) × Sound (wiresOf f) (q .gate)
-  gate-next i q k e =
-      let d = gate-found i k in
-      let p : q ≡ record { position = i; gate = d .0 } = cc (e, d .1) in
-      rw p (d .2, refl, d .3)
+  -- for loops over the gates: the list's gate at i is sound, and its bytes are those at i
+  pub gate-read : (i : ℕ) → i < countOf f → (g : Gate) × (drop i (gatesOf f) ≡ g ∷ drop (suc i) (gatesOf f)) × Sound (wiresOf f) g
+      × (gateBytes g ≡ getD f (8 + 4 * i) 0 ∷ getD f (8 + 4 * i + 1) 0 ∷ getD f (8 + 4 * i + 2) 0 ∷ getD f (8 + 4 * i + 3) 0 ∷ [])
+  gate-read i k =
+      let at = 8 + 4 * i in
+      let d = gate-at (wiresOf f) (countOf f) 0 (drop 8 f) i (bytes-drop 8 f bytes) (omega (arith, h .gates)) k in
+      let b = subst (λ (bs : List ℕ). gateBytes (d .0) ≡ getD bs 0 0 ∷ getD bs 1 0 ∷ getD bs 2 0 ∷ getD bs 3 0 ∷ []) (drop-drop (4 * i) 8 f) (d .1 .bytes) in
+      (d .0, d .2, d .1 .sound, rw (getD-drop at f 0 0, getD-drop at f 1 0, getD-drop at f 2 0, getD-drop at f 3 0, add-zero at) at b)
 
-  pub gate-not-bad : (i : ℕ) → i < countOf f → gateAt f i ≡ Bad → ⊥
-  gate-not-bad i k e =
-      let d = gate-found i k in
-      let z : _≡_ {A = ℕ} 0 1 = cc (e, d .1) in
-      omega arith
+  -- and it is the gate that they say
+  pub gate-said : (i : ℕ) → i < countOf f → (drop i (gatesOf f) ≡ saidAt f i ∷ drop (suc i) (gatesOf f)) × Sound (wiresOf f) (saidAt f i)
+  gate-said i k =
+      let at = 8 + 4 * i in
+      let d = gate-read i k in
+      let e = bytes-said (d .0) (getD f at 0) (getD f (at + 1) 0) (getD f (at + 2) 0) (getD f (at + 3) 0) (d .3) in
+      subst (λ (g : Gate). (drop i (gatesOf f) ≡ g ∷ drop (suc i) (gatesOf f)) × Sound (wiresOf f) g) e (d .1, d .2)
+
+  -- all of a good file's fours say its list
+  pub file-said : saidFrom ((length f - 8) / 4) (drop 8 f) ≡ gatesOf f
+  file-said =
+      let n : (length f - 8) / 4 ≡ countOf f = omega (arith, h .whole) in
+      ap (λ (m : ℕ). saidFrom m (drop 8 f)) n ∙ said-gates (wiresOf f) (countOf f) 0 (drop 8 f) (bytes-drop 8 f bytes) (omega (arith, h .gates))
 
   -- at the count the list is at its end
   pub gates-end : (i : ℕ) → countOf f ≤ i → drop i (gatesOf f) ≡ []

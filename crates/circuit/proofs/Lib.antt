@@ -1,5 +1,6 @@
 pub mod Decoding
 pub mod Files
+pub mod Packing
 pub mod Answers
 mod Checking
 pub mod Writing

@@ -4,7 +4,7 @@ use crate::Gate;
 use crate::Placed;
 ghost use mathlib.Core.Path.{_≡_};
 ghost use Prim.Native.Nat.{_+_, _*_};
-ghost use Rattle.circuit.specs.Gates.{decoded, cnotOf, phaseOf};
+ghost use Rattle.circuit.specs.Gates.{decoded, cnotOf, phaseOf, gateSaid};
 
 // 16 bits, high byte first.
 pub fn word(high: u8, low: u8) -> u16
@@ -56,4 +56,18 @@ pub fn decode(w: u8, position: usize, kind: u8, a: u8, b: u8, c: u8) -> Decoded
         return phase(w, position, a, b, c);
     }
     Decoded::Bad
+}
+
+// The gate that four bytes say, where they are good.
+pub fn gate_of(kind: u8, a: u8, b: u8, c: u8) -> Gate
+    ensures { λ r. ⌜ r ≡ gateSaid kind a b c ⌝ }
+{
+    let angle = word(b, c);
+    if kind == 1 {
+        return Gate::Cnot {
+            control: a,
+            target: b,
+        };
+    }
+    Gate::Phase { wire: a, angle }
 }

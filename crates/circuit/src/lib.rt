@@ -2,10 +2,13 @@
 use refusal::Refusal;
 
 mod decoder;
+mod good;
 mod reader;
 mod writer;
 
 pub use decoder::decode;
+pub use decoder::gate_of;
+pub use good::pack;
 pub use reader::gate_at;
 pub use reader::read;
 pub use writer::put_gate;

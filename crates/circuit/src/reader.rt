@@ -3,6 +3,7 @@ use crate::Decoded;
 use crate::Reading;
 use crate::decoder::decode;
 use crate::decoder::word;
+use crate::good::count_bad;
 use refusal::Refusal;
 ghost use mathlib.Core.Path.{_≡_};
 ghost use Prim.Native.Nat.{_+_, _*_, _≤_};
@@ -32,8 +33,19 @@ pub fn gate_at(file: &[u8], i: usize) -> Decoded
     )
 }
 
-// The position of the first bad gate, or `gates` where none is bad.
+// The position of the first bad gate, or `gates` where none is bad. A good file is told in one pass without exit.
 fn first_bad(file: &[u8], gates: usize) -> usize
+    requires { ⌜ (8 + 4 * gates ≤ length (now file)) × (gates ≤ 2048) ⌝ }
+    ensures { λ r. ⌜ r ≡ firstBad (wiresOf (now (file .entry))) gates 0 (drop 8 (now (file .entry))) ⌝ }
+{
+    if count_bad(file, file[5], gates) == 0 {
+        return gates;
+    }
+    find_bad(file, gates)
+}
+
+// The same by going from gate to gate.
+fn find_bad(file: &[u8], gates: usize) -> usize
     requires { ⌜ 8 + 4 * gates ≤ length (now file) ⌝ }
     ensures { λ r. ⌜ r ≡ firstBad (wiresOf (now (file .entry))) gates 0 (drop 8 (now (file .entry))) ⌝ }
 {
