@@ -1,6 +1,7 @@
 -- Gray words: the paper's, flipping bit d_k, are k XOR k/2; they are the numbers 0 to 2^i - 1 in another order, and close.
 use Prim.Native.Nat.{ℕ, zero, suc, _+_, _-_, _*_, _/_, _%_, _^_, _<_, _≤_}
 use native.Mathlib.Nat.{mod-add-mod, add-mod-right, add-mul-mod-self-right, pow-suc, pow-succ'}
+use native.Mathlib.Numerals.{add-one}
 use native.Mathlib.Decide.{ℕ-discrete}
 use native.Mathlib.Omega.{arith}
 use mathlib.Core.Path.{_≡_, refl, sym, ap, ap₂, _∙_}
@@ -98,7 +99,7 @@ word-closes j =
 pub word-below : (i k : ℕ) → k < 2 ^ i → word i k < 2 ^ i
 word-below i k h = rw (word-gray i k h) (gray-below i k h)
 
-pub trailing-less : (j n : ℕ) → 0 < n → n < 2 ^ j → trailingZeros j n < j
+trailing-less : (j n : ℕ) → 0 < n → n < 2 ^ j → trailingZeros j n < j
 unfolding trailingZeros
 trailing-less zero n p h = absurd (omega arith)
 trailing-less (suc j) n p h = by (n % 2) refl (trailing-less j (n / 2))
@@ -108,7 +109,7 @@ trailing-less (suc j) n p h = by (n % 2) refl (trailing-less j (n / 2))
     by (suc b) e ih = rw e (omega arith)
 
 -- more digits than the number has change nothing
-pub trailing-capped : (i j n : ℕ) → i ≤ j → 0 < n → n < 2 ^ i → trailingZeros j n ≡ trailingZeros i n
+trailing-capped : (i j n : ℕ) → i ≤ j → 0 < n → n < 2 ^ i → trailingZeros j n ≡ trailingZeros i n
 unfolding trailingZeros
 trailing-capped zero j n h p l = absurd (omega arith)
 trailing-capped (suc i) zero n h p l = absurd (omega arith)
@@ -118,6 +119,14 @@ trailing-capped (suc i) (suc j) n h p l = by (n % 2) refl (trailing-capped i j (
     by zero e ih = ap (under (n % 2)) (ih (omega arith) (omega arith) (omega arith))
     by (suc b) e ih = rw e refl
 
+trailing-power : (i j : ℕ) → i ≤ j → trailingZeros j (2 ^ i) ≡ i
+unfolding trailingZeros
+trailing-power zero zero h = refl
+trailing-power zero (suc j) h = refl
+trailing-power (suc i) zero h = absurd (omega arith)
+trailing-power (suc i) (suc j) h =
+    ap₂ under (let e : 2 ^ suc i % 2 ≡ 0 = omega arith in e) (ap (trailingZeros j) (let e : 2 ^ suc i / 2 ≡ 2 ^ i = omega arith in e) ∙ trailing-power i j (omega arith))
+
 pub turned-last : (i k : ℕ) → suc k ≡ 2 ^ i → turned i k ≡ i - 1
 unfolding turned
 turned-last i k e = rw (eq-eqb (suc k) (2 ^ i) e)
@@ -125,6 +134,24 @@ turned-last i k e = rw (eq-eqb (suc k) (2 ^ i) e)
 pub turned-other : (i k : ℕ) → (suc k ≡ 2 ^ i → ⊥) → turned i k ≡ trailingZeros i (suc k)
 unfolding turned
 turned-other i k e = rw (ne-eqb (suc k) (2 ^ i) e)
+
+-- d_k from the zeros of a wide word: they reach i at the last k only
+pub record Turning (i k zeros : ℕ) : Type 0 where
+  pub within : zeros ≤ i
+  pub other : zeros < i → zeros ≡ turned i k
+  pub last : i ≤ zeros → i - 1 ≡ turned i k
+
+pub turning : (i k : ℕ) → i ≤ 64 → k < 2 ^ i → Turning i k (trailingZeros 64 (k + 1))
+turning i k small h = by (ℕ-discrete (suc k) (2 ^ i))
+  where
+    by : Dec (suc k ≡ 2 ^ i) → Turning i k (trailingZeros 64 (k + 1))
+    by (yes p) =
+        let z = ap (trailingZeros 64) (add-one k ∙ p) ∙ trailing-power i 64 small in
+        record { within = omega arith; other = λ l. absurd (omega arith); last = λ l. sym (turned-last i k p) }
+    by (no p) =
+        let z = ap (trailingZeros 64) (add-one k) ∙ trailing-capped i 64 (suc k) small (omega arith) (omega arith) in
+        let l = trailing-less i (suc k) (omega arith) (omega arith) in
+        record { within = omega arith; other = λ m. z ∙ sym (turned-other i k p); last = λ m. absurd (omega arith) }
 
 -- d_k is below i where there are words to flip
 pub turned-below : (j k : ℕ) → k < 2 ^ suc j → turned (suc j) k < suc j

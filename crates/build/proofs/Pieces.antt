@@ -1,11 +1,12 @@
 -- Gates written one list after another.
-use Prim.Native.Nat.{ℕ, zero, suc, _+_, _*_, _%_, _^_, _<_, _≤_}
+use Prim.Native.Nat.{ℕ, zero, suc, _+_, _*_, _/_, _%_, _^_, _<_, _≤_}
 use native.Mathlib.Nat.{add-zero, le-refl, le-trans, le-of-eq, add-le-add}
+use native.Mathlib.Numerals.{add-one, add-two, add-three, add-four, add-five, add-six, add-seven}
 use native.Mathlib.Decide.{ℕ-discrete}
 use native.Mathlib.Omega.{arith}
 use mathlib.Core.Path.{_≡_, refl, sym, ap, ap₂, subst, _∙_}
 use mathlib.Core.List.{List, [], _∷_, _++_, append-nil}
-use lib.ListN.{length, getD, length-append}
+use lib.ListN.{length, getD, set, length-append}
 use lib.Bits.{bitXor}
 use lib.Pow.{pow-mono}
 use Rattle.circuit.specs.declared.Gate.{Gate}
@@ -34,13 +35,12 @@ put-more xs ys at out h =
     ∙ ap (λ (b : List ℕ). putAt b at out) (sym (bytes-append xs ys))
 
 -- a phase, then a CNOT
-pub pair-written : (p c : Gate) (at : ℕ) (out one both : List ℕ) → at + 8 ≤ length out → length (gateBytes p) ≡ 4 → length (gateBytes c) ≡ 4
-    → one ≡ putAt (gateBytes p) at out → both ≡ putAt (gateBytes c) (at + 4) one → both ≡ putAt (bytesOf (p ∷ c ∷ [])) at out
+pub pair-stored : (i a c at : ℕ) (out : List ℕ) → at + 8 ≤ length out
+    → set (set (set (set (set (set (set (set out at 2) (at + 1) i) (at + 2) (a / 256)) (at + 3) (a % 256)) (at + 4) 1) (at + 5) c) (at + 6) i) (at + 7) 0
+    ≡ putAt (bytesOf (Phase i a ∷ Cnot c i ∷ [])) at out
 unfolding bytesOf
-pair-written p c at out one both h lp lc e d =
-    d ∙ ap₂ (λ (n : ℕ) (o : List ℕ). putAt (gateBytes c) (at + n) o) (sym lp) e
-    ∙ put-put (gateBytes p) (gateBytes c) at out (omega (arith, length-append (gateBytes p) (gateBytes c)))
-    ∙ ap (λ (b : List ℕ). putAt (gateBytes p ++ b) at out) (sym (append-nil (gateBytes c)))
+pair-stored i a c at out h =
+    simp (add-one, add-two, add-three, add-four, add-five, add-six, add-seven) (sym (put-sets (2 ∷ i ∷ a / 256 ∷ a % 256 ∷ 1 ∷ c ∷ i ∷ 0 ∷ []) at out h))
 
 -- the first m lists are no longer than all n of them
 pub fewer-bytes : (m n : ℕ) (F : ℕ → List Gate) → m ≤ n → length (bytesOf (inTurn m F)) ≤ length (bytesOf (inTurn n F))

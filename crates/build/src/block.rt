@@ -86,8 +86,14 @@ fn write_pair(i: u8, angle: u16, control: u8, out: &mut [u8], at: usize)
     requires { ⌜ at + 8 ≤ length (now out) ⌝ }
     ensures { λ _. ⌜ now (out .exit) ≡ putAt (bytesOf (Phase i angle ∷ Cnot control i ∷ [])) at (now (out .entry)) ⌝ }
 {
-    circuit::put_gate(Gate::Phase { wire: i, angle }, out, at);
-    circuit::put_gate(Gate::Cnot { control, target: i }, out, at + 4)
+    out[at] = 2;
+    out[at + 1] = i;
+    out[at + 2] = (angle / 256) as u8;
+    out[at + 3] = (angle % 256) as u8;
+    out[at + 4] = 1;
+    out[at + 5] = control;
+    out[at + 6] = i;
+    out[at + 7] = 0;
 }
 
 // d_k: the trailing zeros of k + 1, except that the last is i - 1.
@@ -97,8 +103,6 @@ fn turned(i: u8, k: usize) -> u8
     requires { ⌜ k < 2 ^ i ⌝ }
     ensures { λ r. ⌜ r ≡ Gray·turned i k ⌝ }
 {
-    if k + 1 == numbers::power(i) {
-        return i - 1;
-    }
-    usize::trailing_zeros(k + 1) as u8
+    let zeros = usize::trailing_zeros(k + 1) as u8;
+    if zeros < i { zeros } else { i - 1 }
 }

@@ -2,6 +2,7 @@ pub mod Words
 pub mod Halves
 pub mod Mixing
 pub mod Bounds
+pub mod Fours
 pub mod Recursion
 pub mod Spectra
 pub mod Answers

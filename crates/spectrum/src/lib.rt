@@ -34,12 +34,15 @@ pub fn spectrum(n: u8, table: &[u8], out: &mut [i32]) -> Transformed
 
 // Entry x becomes +1, or -1 where f(x) is 1.
 fn write_signs(table: &[u8], out: &mut [i32])
+    requires { ⌜ length (now out) ≤ 256 ⌝ }
     ensures { λ _. ⌜ now (out .exit) ≡ list (length (now (out .entry))) (λ x. flip (valueAt (now (table .entry)) x) (pos 1)) ⌝ }
 {
+    let mut values = [0u8; 256];
+    table::values(table, &mut values);
     let entries = out.len();
     let mut x: usize = 0;
     while x < entries {
-        out[x] = sign(table::value(table, x));
+        out[x] = sign(values[x]);
         x += 1;
     }
 }
@@ -56,12 +59,47 @@ fn transform(v: &mut [i32])
     requires { ⌜ Tame (now v) ⌝ }
     ensures { λ _. ⌜ ((n : ℕ) → length (now (v .entry)) ≡ 2 ^ n → now (v .exit) ≡ transformed n (now (v .entry))) ⌝ }
 {
+    if v.len() == 16 {
+        sixteen(v);
+        return;
+    }
     let half = v.len() / 2;
     if 0 < half {
         transform(&mut v[..half]);
         transform(&mut v[half..]);
         mix(v, half);
     }
+}
+
+// H_4, and H_3 and H_2 below, the same way without the recursion: the compiler makes straight code of them.
+fn sixteen(v: &mut [i32])
+    requires { ⌜ length (now v) ≡ 16 ⌝ }
+    requires { ⌜ Tame (now v) ⌝ }
+    ensures { λ _. ⌜ ((n : ℕ) → length (now (v .entry)) ≡ 2 ^ n → now (v .exit) ≡ transformed n (now (v .entry))) ⌝ }
+{
+    eight(&mut v[..8]);
+    eight(&mut v[8..]);
+    mix(v, 8)
+}
+
+fn eight(v: &mut [i32])
+    requires { ⌜ length (now v) ≡ 8 ⌝ }
+    requires { ⌜ Tame (now v) ⌝ }
+    ensures { λ _. ⌜ ((n : ℕ) → length (now (v .entry)) ≡ 2 ^ n → now (v .exit) ≡ transformed n (now (v .entry))) ⌝ }
+{
+    four(&mut v[..4]);
+    four(&mut v[4..]);
+    mix(v, 4)
+}
+
+fn four(v: &mut [i32])
+    requires { ⌜ length (now v) ≡ 4 ⌝ }
+    requires { ⌜ Tame (now v) ⌝ }
+    ensures { λ _. ⌜ ((n : ℕ) → length (now (v .entry)) ≡ 2 ^ n → now (v .exit) ≡ transformed n (now (v .entry))) ⌝ }
+{
+    mix_pair(v, 0, 1);
+    mix_pair(v, 2, 3);
+    mix(v, 2)
 }
 
 // The sums of the halves' entries into the first half, their differences into the second.

@@ -1,28 +1,89 @@
-use mathlib.Core.Path.{refl}
 use native.Mathlib.Omega.{arith}
-use Rattle.circuit.specs.declared.Gate.the-variants.{Cnot, Phase}
-use Rattle.build.proofs.Pieces.{pair-written}
+use lib.ListN.{length-set}
+use Rattle.build.proofs.Pieces.{pair-stored}
 use borrow.Author.Needs.{needs}
 use Rattle.build.proofs.block.write_pair.Statement.{statement}
 use Rattle.build.proofs.block.write_pair.Tie as tie
 
-put-gate-requires : tie.Need-put-gate-requires
-put-gate-requires c κs = search needs
+slice-write-out : tie.Need-slice-write-out
+slice-write-out c = search needs
 
-add-put-gate : tie.Need-add-put-gate
-add-put-gate c = search needs
+add-out : tie.Need-add-out
+add-out c = search needs
 
-put-gate-requires-2 : tie.Need-put-gate-requires-2
-put-gate-requires-2 c κs = search needs
+slice-write-out-2 : tie.Need-slice-write-out-2
+slice-write-out-2 c = simp length-set (omega arith)
+
+cast-out : tie.Need-cast-out
+cast-out c = search needs
+
+add-out-2 : tie.Need-add-out-2
+add-out-2 c = search needs
+
+slice-write-out-3 : tie.Need-slice-write-out-3
+slice-write-out-3 c = simp length-set (omega arith)
+
+cast-out-2 : tie.Need-cast-out-2
+cast-out-2 c = search needs
+
+add-out-3 : tie.Need-add-out-3
+add-out-3 c = search needs
+
+slice-write-out-4 : tie.Need-slice-write-out-4
+slice-write-out-4 c = simp length-set (omega arith)
+
+add-out-4 : tie.Need-add-out-4
+add-out-4 c = search needs
+
+slice-write-out-5 : tie.Need-slice-write-out-5
+slice-write-out-5 c = simp length-set (omega arith)
+
+add-out-5 : tie.Need-add-out-5
+add-out-5 c = search needs
+
+slice-write-out-6 : tie.Need-slice-write-out-6
+slice-write-out-6 c = simp length-set (omega arith)
+
+add-out-6 : tie.Need-add-out-6
+add-out-6 c = search needs
+
+slice-write-out-7 : tie.Need-slice-write-out-7
+slice-write-out-7 c = simp length-set (omega arith)
+
+add-out-7 : tie.Need-add-out-7
+add-out-7 c = search needs
+
+slice-write-out-8 : tie.Need-slice-write-out-8
+slice-write-out-8 c = simp length-set (omega arith)
 
 same-length : tie.Need-same-length
 same-length c = search needs
 
 returns : tie.Need-returns
 returns c =
-    let a = c .before .before .before .before .before .before .before .before .before .args in
-    pair-written (Phase (a .i) (a .angle)) (Cnot (a .control) (a .i)) (a .at) (a .out .now) (c .before .before .before .before .before .before .put-gate .last .1 .0) (c .before .before .put-gate2 .last .1 .0) (omega arith) refl refl (c .before .before .before .before .before .before .put-gate .ensures) (c .before .before .put-gate2 .ensures)
+    let a = c .args in
+    pair-stored (a .i) (a .angle) (a .control) (a .at) (a .out .now) (c .pre)
 
 pub write-pair-spec : {M : Type 1} → statement M
 write-pair-spec =
-    tie.close (tie.spec put-gate-requires add-put-gate put-gate-requires-2 same-length returns)
+    tie.close
+    (tie.spec
+    slice-write-out
+    add-out
+    slice-write-out-2
+    cast-out
+    add-out-2
+    slice-write-out-3
+    cast-out-2
+    add-out-3
+    slice-write-out-4
+    add-out-4
+    slice-write-out-5
+    add-out-5
+    slice-write-out-6
+    add-out-6
+    slice-write-out-7
+    add-out-7
+    slice-write-out-8
+    same-length
+    returns)
