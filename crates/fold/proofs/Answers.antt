@@ -15,14 +15,14 @@ use Rattle.refusal.proofs.Contracts.{Distinct, same-refusal}
 use Rattle.refusal.proofs.Rooms.{earlier-refused, room-refused, room-enough}
 use Rattle.circuit.specs.Gates.{bytesOf, putAt}
 use Rattle.circuit.specs.File.{wiresOf, gatesOf, fileChecks, fileOf, headerBytes}
-use Rattle.running.specs.Run.{cnots, score}
+use Rattle.running.specs.Run.{nonzero, cnots, score}
 use Rattle.circuit.proofs.Decoding.{Bytes}
 use Rattle.circuit.proofs.Files.{good-file}
 use Rattle.circuit.proofs.Writing.{put-fits, put-put}
 use Rattle.fold.specs.declared.Folded.{Folded}
 use Rattle.fold.specs.declared.Folded.the-variants.{File, Refused}
 use Rattle.fold.specs.Fold.{groupTotal, folded, foldedFile, foldedSays, Folds}
-use Rattle.fold.specs.Totals.{Totals, nonzero, nonzeros}
+use Rattle.fold.specs.Totals.{Totals, nonzeros}
 use Rattle.fold.proofs.Scores.{score-of-totals, length-folded}
 use Rattle.fold.proofs.Files.{few-gates, length-folded-file}
 

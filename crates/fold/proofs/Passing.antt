@@ -13,14 +13,12 @@ use Rattle.numbers.specs.Bits.{equal, indicator}
 use Rattle.numbers.proofs.Parity.{equal-yes, equal-no}
 use Rattle.circuit.specs.declared.Gate.{Gate}
 use Rattle.circuit.specs.declared.Gate.the-variants.{Cnot, Phase}
-use Rattle.running.specs.declared.Met.{Met}
-use Rattle.running.specs.declared.Met.the-variants.{Mixed, Mask}
 use Rattle.circuit.specs.Gates.{AllSound}
-use Rattle.running.specs.Run.{cnots, score}
-use Rattle.running.specs.Masks.{masksAfter, met, sumMet}
+use Rattle.running.specs.Run.{nonzero, cnots, score}
+use Rattle.running.specs.Masks.{Met, Mixed, Mask, masksAfter, met, sumMet}
 use Rattle.running.proofs.Masks.{Alike, met-alike, alike-after}
 use Rattle.fold.specs.Fold.{kept, cnotsOf}
-use Rattle.fold.specs.Totals.{left, nonzero}
+use Rattle.fold.specs.Totals.{left}
 
 -- the totals once mask m's is taken
 abbrev pub cleared : (ℕ → ℕ) → ℕ → ℕ → ℕ

@@ -15,12 +15,11 @@ use Rattle.numbers.specs.Sums.{sum}
 use Rattle.numbers.proofs.Sums.{sumOf-ext}
 use Rattle.numbers.proofs.Singles.{sum-≤}
 use Rattle.circuit.specs.declared.Gate.{Gate}
-use Rattle.running.specs.Run.{cnots, score}
+use Rattle.running.specs.Run.{nonzero, cnots, score}
 use Rattle.running.specs.Masks.{ownMasks, sumMet}
 use Rattle.running.proofs.Masks.{own-below}
 use Rattle.running.proofs.Groups.{collect, sum-vanishes, score-met}
 use Rattle.fold.specs.Fold.{groupTotal, folded}
-use Rattle.fold.specs.Totals.{nonzero}
 use Rattle.fold.proofs.Passing.{scored-passed}
 use Rattle.fold.proofs.Positions.{folded-passed}
 use Rattle.fold.proofs.Folding.{group-folded}

@@ -1,5 +1,5 @@
 -- The loop that writes: what the pass still leaves of the rest, put behind what is written, is the whole.
-use Prim.Native.Nat.{ℕ, suc, _+_, _^_, _<_, _≤_}
+use Prim.Native.Nat.{ℕ, suc, _+_, _%_, _<_, _≤_}
 use native.Mathlib.Nat.{add-zero}
 use native.Mathlib.Numerals.{add-one}
 use native.Mathlib.Decide.{ℕ-discrete, decLt}
@@ -11,16 +11,14 @@ use lib.Seq.{getD-set-same, getD-set-other, set-out}
 use Rattle.refusal.specs.Checks.{passed as allPassed, outcome}
 use Rattle.circuit.specs.declared.Gate.{Gate}
 use Rattle.circuit.specs.declared.Gate.the-variants.{Cnot, Phase}
-use Rattle.running.specs.declared.Met.{Met}
-use Rattle.running.specs.declared.Met.the-variants.{Mixed, Mask}
-use Rattle.circuit.specs.Gates.{gateBytes, bytesOf, putAt}
+use Rattle.circuit.specs.Gates.{gateBytes, bytesOf, putAt, Sound}
 use Rattle.circuit.specs.File.{wiresOf, countOf, gatesOf, fileChecks}
-use Rattle.running.specs.Masks.{ownMasks, powers, masksAfter, met}
-use Rattle.circuit.proofs.Decoding.{Bytes, bytes-append}
+use Rattle.running.specs.Masks.{ownMasks, firstMasks, masksAfter, met, modulo}
+use Rattle.circuit.proofs.Decoding.{Bytes, bytes-append, sound-wider}
 use Rattle.circuit.proofs.Files.{good-file, file-sound, gates-end}
-use Rattle.running.proofs.Masks.{powers-own, own-alike, length-after}
+use Rattle.running.proofs.Masks.{MasksBelow, first-alike, first-below, after-below}
+use Rattle.running.proofs.Stepping.{modulo-sound}
 use Rattle.circuit.proofs.Writing.{put-fits, put-put, length-put}
-use Rattle.numbers.proofs.Lists.{length-list}
 use Rattle.fold.specs.Fold.{groupTotal, folded}
 use Rattle.fold.specs.Totals.{Totals, takenFrom, found, left, leaves}
 use Rattle.fold.specs.declared.writer.Left.{Left}
@@ -36,24 +34,28 @@ abbrev rest : List ℕ → List ℕ → List ℕ → ℕ → List Gate
 rest f masks totals i = passed (entry totals) (drop i (gatesOf f)) masks
 
 pub record Writing (f goal masks totals out : List ℕ) (at i : ℕ) : Type 0 where
-  pub wide : length masks ≡ 10
+  pub below : MasksBelow 10 masks
   pub fits : at + length (bytesOf (rest f masks totals i)) ≤ length out
   pub writes : putAt (bytesOf (rest f masks totals i)) at out ≡ goal
 
--- a total that is taken from the row
-taken-entry : (totals : List ℕ) (x : Met) → entry (takenFrom x totals) ≡ after (entry totals) x
-taken-entry totals Mixed = refl
-taken-entry totals (Mask k a) = same-function (entry (set totals k 0)) (cleared (entry totals) k) (λ m. by m (ℕ-discrete m k) (decLt k (length totals)))
-  where
-    by : (m : ℕ) → Dec (m ≡ k) → Dec (k < length totals) → entry (set totals k 0) m ≡ cleared (entry totals) k m
-    by m (no e) d = getD-set-other totals k m 0 0 e ∙ sym (cleared-other (entry totals) k m e)
-    by m (yes e) (yes l) = ap (entry (set totals k 0)) e ∙ getD-set-same totals k 0 0 l ∙ sym (cleared-own (entry totals) k m e)
-    by m (yes e) (no l) =
-        ap (λ (t : List ℕ). entry t m) (set-out totals k 0 (omega arith)) ∙ List·getD-eq-default totals 0 {n = m} (omega arith) ∙ sym (cleared-own (entry totals) k m e)
+-- a mask below 1,024 is its own place in the row
+module _ (totals masks : List ℕ) (below : MasksBelow 10 masks) where
+  taken-entry : (g : Gate) → entry (takenFrom (met g masks) totals) ≡ after (entry totals) (met g masks)
+  taken-entry (Cnot c t) = refl
+  taken-entry (Phase i a) =
+      let k = getD masks i 0 in
+      let e : k % 1024 ≡ k = omega (arith, below i) in
+      same-function (entry (set totals (k % 1024) 0)) (cleared (entry totals) k) (λ m. rw e (by k m (ℕ-discrete m k) (decLt k (length totals))))
+    where
+      by : (k m : ℕ) → Dec (m ≡ k) → Dec (k < length totals) → entry (set totals k 0) m ≡ cleared (entry totals) k m
+      by k m (no e) d = getD-set-other totals k m 0 0 e ∙ sym (cleared-other (entry totals) k m e)
+      by k m (yes e) (yes l) = ap (entry (set totals k 0)) e ∙ getD-set-same totals k 0 0 l ∙ sym (cleared-own (entry totals) k m e)
+      by k m (yes e) (no l) =
+          ap (λ (t : List ℕ). entry t m) (set-out totals k 0 (omega arith)) ∙ List·getD-eq-default totals 0 {n = m} (omega arith) ∙ sym (cleared-own (entry totals) k m e)
 
-found-entry : (totals : List ℕ) (x : Met) → found x totals ≡ takes (entry totals) x
-found-entry totals Mixed = refl
-found-entry totals (Mask k a) = refl
+  found-entry : (g : Gate) → found (met g masks) totals ≡ takes (entry totals) (met g masks)
+  found-entry (Cnot c t) = refl
+  found-entry (Phase i a) = let e : getD masks i 0 % 1024 ≡ getD masks i 0 = omega (arith, below i) in ap (entry totals) e
 
 -- writing nothing changes nothing
 put-none : (at : ℕ) (out : List ℕ) → at ≤ length out → putAt [] at out ≡ out
@@ -78,18 +80,17 @@ module _ (l : Left) (at : ℕ) (out : List ℕ) where
       four (Phase i a) = refl
 
 module _ (f : List ℕ) (bytes : Bytes f) (passes : outcome (fileChecks 0 f) ≡ allPassed) where
-  pub writing-starts : (masks totals out : List ℕ) → masks ≡ powers 10 → Totals f totals → 8 + length (bytesOf (folded (wiresOf f) (gatesOf f))) ≤ length out
+  pub writing-starts : (masks totals out : List ℕ) → masks ≡ firstMasks → Totals f totals → 8 + length (bytesOf (folded (wiresOf f) (gatesOf f))) ≤ length out
       → Writing f (putAt (bytesOf (folded (wiresOf f) (gatesOf f))) 8 out) masks totals out 8 0
   writing-starts masks totals out p t h =
       let g = good-file 0 f passes in
       let w = wiresOf f in
       let gs = gatesOf f in
-      let own : masks ≡ ownMasks 10 = p ∙ powers-own 10 (omega arith) in
       let e : passed (entry totals) gs masks ≡ folded w gs =
-      ap₂ (λ (T : ℕ → ℕ) (ms : List ℕ). passed T gs ms) (same-function (entry totals) (groupTotal w gs) (t .each)) own
-      ∙ passed-alike (groupTotal w gs) w gs (ownMasks 10) (ownMasks w) (file-sound f bytes g) (own-alike w 10 (g .few)) ∙ sym (folded-passed w gs) in
+      ap₂ (λ (T : ℕ → ℕ) (ms : List ℕ). passed T gs ms) (same-function (entry totals) (groupTotal w gs) (t .each)) p
+      ∙ passed-alike (groupTotal w gs) w gs firstMasks (ownMasks w) (file-sound f bytes g) (first-alike w (g .few)) ∙ sym (folded-passed w gs) in
       record {
-        wide = ap length own ∙ length-list 10 (λ i. 2 ^ i);
+        below = λ i. rw p (first-below i);
         fits = rw e h;
         writes = ap (λ (l : List Gate). putAt (bytesOf l) 8 out) e;
       }
@@ -106,13 +107,25 @@ module _ (f goal : List ℕ) (i : ℕ) (masks totals out : List ℕ) (at : ℕ) 
   room-left = omega (arith, r .fits)
 
   module _ (g : Gate) (l : List Gate) (masks′ totals′ : List ℕ)
-      (d : drop i (gatesOf f) ≡ g ∷ drop (suc i) (gatesOf f)) (p : masks′ ≡ masksAfter g masks) (q : totals′ ≡ takenFrom (met g masks) totals)
-      (e : l ≡ left (found (met g masks) totals) g) where
+      (d : drop i (gatesOf f) ≡ g ∷ drop (suc i) (gatesOf f)) (sound : Sound (wiresOf f) g) (few : wiresOf f ≤ 10)
+      (p′ : masks′ ≡ masksAfter (modulo g) masks) (q′ : totals′ ≡ takenFrom (met (modulo g) masks) totals) (e′ : l ≡ left (found (met (modulo g) masks) totals) g) where
+    same : modulo g ≡ g
+    same = modulo-sound g (sound-wider (wiresOf f) 16 g (omega arith) sound)
+
+    p : masks′ ≡ masksAfter g masks
+    p = p′ ∙ ap (λ (h : Gate). masksAfter h masks) same
+
+    q : totals′ ≡ takenFrom (met g masks) totals
+    q = q′ ∙ ap (λ (h : Gate). takenFrom (met h masks) totals) same
+
+    e : l ≡ left (found (met g masks) totals) g
+    e = e′ ∙ ap (λ (h : Gate). left (found (met h masks) totals) g) same
+
     split : rest f masks totals i ≡ l ++ rest f masks′ totals′ (suc i)
     split =
         ap (λ (gs : List Gate). passed (entry totals) gs masks) d ∙ passed-cons (entry totals) g (drop (suc i) (gatesOf f)) masks
-        ∙ ap₂ _++_ (ap (λ (t : ℕ). left t g) (sym (found-entry totals (met g masks))) ∙ sym e)
-        (ap₂ (λ (T : ℕ → ℕ) (ms : List ℕ). passed T (drop (suc i) (gatesOf f)) ms) (sym (taken-entry totals (met g masks)) ∙ ap entry (sym q)) (sym p))
+        ∙ ap₂ _++_ (ap (λ (t : ℕ). left t g) (sym (found-entry totals masks (r .below) g)) ∙ sym e)
+        (ap₂ (λ (T : ℕ → ℕ) (ms : List ℕ). passed T (drop (suc i) (gatesOf f)) ms) (sym (taken-entry totals masks (r .below) g) ∙ ap entry (sym q)) (sym p))
 
     parts : bytesOf (rest f masks totals i) ≡ bytesOf l ++ bytesOf (rest f masks′ totals′ (suc i))
     parts = ap bytesOf split ∙ bytes-append l (rest f masks′ totals′ (suc i))
@@ -126,7 +139,7 @@ module _ (f goal : List ℕ) (i : ℕ) (masks totals out : List ℕ) (at : ℕ) 
         let k : length out′ ≡ length out = ap length s ∙ length-put (bytesOf l) at out w in
         rw (add-one i)
         (record {
-          wide = ap length p ∙ length-after g masks ∙ r .wide;
+          below = λ j. rw p (after-below 10 g masks (r .below) j);
           fits = omega (arith, r .fits, long);
           writes = ap₂ (λ (a : ℕ) (o : List ℕ). putAt (bytesOf (rest f masks′ totals′ (suc i))) a o) t s
               ∙ put-put (bytesOf l) (bytesOf (rest f masks′ totals′ (suc i))) at out (rw (length-append (bytesOf l) (bytesOf (rest f masks′ totals′ (suc i)))) (omega (arith, r .fits, long)))

@@ -38,8 +38,8 @@ fn fold_good(file: &[u8], gates: usize, mixing: usize, before: usize, out: &mut 
     requires { ⌜ (mixing ≡ cnots (gatesOf (now file))) × (before ≡ score (gatesOf (now file))) ⌝ }
     ensures { λ r. ⌜ Folds (now (file .entry)) (now (out .entry)) r (now (out .exit)) ⌝ }
 {
-    let mut totals = totals::totals_of(file, gates);
-    let after = totals::count_nonzero(&totals);
+    let mut totals = totals::totals_of(file);
+    let after = totals::count_nonzero(&totals) as usize;
     let kept = mixing + after;
     let length = 8 + 4 * kept;
     if out.len() < length {

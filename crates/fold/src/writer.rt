@@ -1,14 +1,12 @@
 // The folded gates, written.
-use circuit::Decoded;
 use circuit::Gate;
-use running::Met;
 ghost use mathlib.Core.Path.{_≡_};
-ghost use Prim.Native.Nat.{_+_, _≤_};
+ghost use Prim.Native.Nat.{_+_, _%_, _≤_};
 ghost use lib.ListN.{length, getD, set};
 ghost use Rattle.refusal.specs.Checks.{outcome, passed};
 ghost use Rattle.circuit.specs.Gates.{bytesOf, putAt};
 ghost use Rattle.circuit.specs.File.{wiresOf, countOf, gatesOf, fileChecks};
-ghost use Rattle.running.specs.Masks.{met, masksAfter};
+ghost use Rattle.running.specs.Masks.{met, masksAfter, modulo};
 ghost use Rattle.fold.specs.Fold.{folded, kept};
 ghost use Rattle.fold.specs.Totals.{takenFrom, found, left, leaves, Totals};
 
@@ -19,17 +17,14 @@ enum Left {
 }
 
 // Takes a mask's total: the entry becomes 0, so that later gates of the group find 0.
-fn take(totals: &mut [u16], mask: usize) -> u16
-    ensures { λ r. ⌜ r ≡ getD (now (totals .entry)) mask 0 ⌝ }
-    ensures { λ r. ⌜ now (totals .exit) ≡ set (now (totals .entry)) mask 0 ⌝ }
+fn take(totals: &mut [u16; 1024], mask: u16) -> u16
+    ensures { λ r. ⌜ r ≡ getD (now (totals .entry)) (mask % 1024) 0 ⌝ }
+    ensures { λ r. ⌜ now (totals .exit) ≡ set (now (totals .entry)) (mask % 1024) 0 ⌝ }
 {
-    if mask < totals.len() {
-        let total = totals[mask];
-        totals[mask] = 0;
-        total
-    } else {
-        0
-    }
+    let at = (mask % 1024) as usize;
+    let total = totals[at];
+    totals[at] = 0;
+    total
 }
 
 // A phase gate with its group's total.
@@ -43,22 +38,19 @@ fn phase(wire: u8, total: u16) -> Left
 }
 
 // What becomes of a gate whose group's total is taken from the row.
-fn fold_gate(gate: Gate, masks: &mut [u16], totals: &mut [u16]) -> Left
-    ensures { λ _. ⌜ now (masks .exit) ≡ masksAfter gate (now (masks .entry)) ⌝ }
-    ensures { λ _. ⌜ now (totals .exit) ≡ takenFrom (met gate (now (masks .entry))) (now (totals .entry)) ⌝ }
-    ensures { λ r. ⌜ leaves r ≡ left (found (met gate (now (masks .entry))) (now (totals .entry))) gate ⌝ }
+fn fold_gate(gate: Gate, masks: &mut [u16; 16], totals: &mut [u16; 1024]) -> Left
+    ensures { λ _. ⌜ now (masks .exit) ≡ masksAfter (modulo gate) (now (masks .entry)) ⌝ }
+    ensures { λ _. ⌜ now (totals .exit) ≡ takenFrom (met (modulo gate) (now (masks .entry))) (now (totals .entry)) ⌝ }
+    ensures { λ r. ⌜ leaves r ≡ left (found (met (modulo gate) (now (masks .entry))) (now (totals .entry))) gate ⌝ }
 {
-    let met = running::walk(masks, gate);
     match gate {
-        Gate::Cnot {
-            control: _,
-            target: _,
-        } => Left::Stays(gate),
+        Gate::Cnot { control, target } => {
+            running::mix(masks, control, target);
+            Left::Stays(gate)
+        }
         Gate::Phase { wire, angle: _ } => {
-            let Met::Mask { mask, angle: _ } = met else {
-                return Left::Stays(gate);
-            };
-            phase(wire, take(totals, mask as usize))
+            let mask = running::mask_at(masks, wire);
+            phase(wire, take(totals, mask))
         }
     }
 }
@@ -79,21 +71,18 @@ fn put_left(left: Left, out: &mut [u8], at: usize) -> usize
 }
 
 // Writes the folded gates behind the header.
-pub fn write_gates(file: &[u8], gates: usize, totals: &mut [u16], out: &mut [u8])
+pub fn write_gates(file: &[u8], gates: usize, totals: &mut [u16; 1024], out: &mut [u8])
     requires { ⌜ (outcome (fileChecks 0 (now file)) ≡ passed) × (gates ≡ countOf (now file)) ⌝ }
     requires { ⌜ Totals (now file) (now totals) ⌝ }
     requires { ⌜ 8 + length (bytesOf (folded (wiresOf (now file)) (gatesOf (now file)))) ≤ length (now out) ⌝ }
     ensures { λ _. ⌜ now (out .exit) ≡ putAt (bytesOf (folded (wiresOf (now (file .entry))) (gatesOf (now (file .entry))))) 8 (now (out .entry)) ⌝ }
 {
-    let mut masks = [0u16; 10];
-    running::own_masks(&mut masks);
+    let mut masks = running::first_masks();
     let mut at: usize = 8;
     let mut i: usize = 0;
     while i < gates {
-        let Decoded::Good(placed) = circuit::gate_at(file, i) else {
-            return;
-        };
-        let gate = placed.gate;
+        let from = 8 + 4 * i;
+        let gate = circuit::gate_of(file[from], file[from + 1], file[from + 2], file[from + 3]);
         let left = fold_gate(gate, &mut masks, totals);
         at = put_left(left, out, at);
         i += 1;

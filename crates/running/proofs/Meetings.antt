@@ -12,9 +12,7 @@ use Rattle.numbers.proofs.Subsets.{sum-zero, sum-pick}
 use Rattle.numbers.proofs.Turns.{≈-refl, ≈-add, ≈-of, _≈∙_}
 use Rattle.circuit.specs.declared.Gate.{Gate}
 use Rattle.circuit.specs.declared.Gate.the-variants.{Cnot, Phase}
-use Rattle.running.specs.declared.Met.{Met}
-use Rattle.running.specs.declared.Met.the-variants.{Mixed, Mask}
-use Rattle.running.specs.Masks.{masksAfter, met, metBy, sumMet}
+use Rattle.running.specs.Masks.{Met, Mixed, Mask, masksAfter, met, metBy, sumMet}
 use Rattle.running.proofs.Masks.{MasksBelow, after-below}
 
 -- the same angle where each term is, at masks below 2^w

@@ -1,54 +1,133 @@
--- One gate, as the code does it: the state, the phase, the counts and the masks.
-use Prim.Native.Nat.{ℕ, _*_, _%_, _^_, _<_, _≤_, _+_}
-use native.Mathlib.Nat.{mul-one, mul-zero, mod-eq-of-lt, div-eq-of-lt, le-trans}
+-- One gate, as the code does it: the state, the phase and the counts from its packed bytes, and the masks.
+use Prim.Native.Nat.{ℕ, zero, suc, _+_, _-_, _*_, _/_, _%_, _^_, _<_, _≤_}
+use native.Mathlib.Nat.{mul-one, mul-zero, zero-mul, sub-zero, mul-comm, mod-eq-of-lt}
+use native.Mathlib.Decide.{ℕ-discrete}
 use native.Mathlib.Omega.{arith}
 use mathlib.Core.Path.{_≡_, refl, sym, ap, ap₂, subst, _∙_}
 use mathlib.Core.List.{List, [], _∷_}
 use borrow.Author.Tests.{eq-eqb, ne-eqb}
-use lib.Bits.{bitXor}
+use lib.Bits.{bitXor, xor-zero-r}
 use lib.ListN.{getD, set}
-use lib.Pow.{pow-mono}
 use Rattle.numbers.specs.Bits.{bit}
 use Rattle.circuit.specs.declared.Gate.{Gate}
 use Rattle.circuit.specs.declared.Gate.the-variants.{Cnot, Phase}
-use Rattle.running.specs.declared.Met.the-variants.{Mixed, Mask}
-use Rattle.running.specs.Run.{stepped, added, score}
-use Rattle.running.specs.Masks.{Walked, masksAfter, met, addMet}
+use Rattle.circuit.specs.Gates.{gateBytes, packed, Sound}
+use Rattle.circuit.proofs.Packing.{behind-wire, wire-bits, target-bits, angle-bytes}
 use Rattle.running.proofs.Runs.{weight-below}
-use Rattle.running.specs.declared.Met.{Met}
+use Rattle.running.specs.Run.{stepped, added, nonzero, cnots, score}
+use Rattle.running.specs.Masks.{Mask, masksAfter, met, addMet, modulo}
 
--- above the highest bit there is none
-pub bit-past : (s i : ℕ) → s < 2 ^ 16 → 16 ≤ i → 0 ≡ bit s i
-bit-past s i h k = sym (ap (_% 2) (div-eq-of-lt (le-trans h (pow-mono k))))
+-- 0 or 1 times an angle
+pub once : (b n : ℕ) → b ≤ 1 → n ≤ 65535 → b * n ≤ 65535
+once zero n h k = omega arith
+once (suc zero) n h k = omega arith
+once (suc (suc b)) n h k = absurd (omega arith)
 
-pub cnot-steps : (s b c t : ℕ) → b ≡ bit s c → t < 16 → bitXor s (b * 2 ^ t % 2 ^ 16) ≡ stepped (Cnot c t) s
-cnot-steps s b c t e h = ap (bitXor s) (mod-eq-of-lt (weight-below b t 16 (omega arith) h) ∙ ap (_* 2 ^ t) e)
+-- a bit and its product with another
+pub bit-apart : (b f h o : ℕ) → b ≡ h → f ≡ h * o → h < 2 → o < 2 → (f ≤ b) × (f < 2) × (b - f ≤ 1)
+bit-apart b f h zero p q l k = (omega arith, omega arith, omega arith)
+bit-apart b f h (suc zero) p q l k = (omega arith, omega arith, omega arith)
+bit-apart b f h (suc (suc o)) p q l k = absurd (omega arith)
 
-pub phase-on : (s b i a : ℕ) → b ≡ bit s i → b ≡ 1 → a ≡ added (Phase i a) s
-phase-on s b i a e h = sym (ap (a *_) (sym e ∙ h) ∙ mul-one a)
+-- a bit shifted below the number's width
+pub bit-shifted : (s f h t : ℕ) → f ≡ h → f < 2 → t < 32 → bitXor s (f * 2 ^ t % 4294967296) ≡ bitXor s (h * 2 ^ t)
+bit-shifted s f h t e l k = ap (bitXor s) (mod-eq-of-lt (weight-below f t 32 l k) ∙ ap (_* 2 ^ t) e)
 
-pub phase-off : (s b i a : ℕ) → b ≡ bit s i → (b ≡ 1 → ⊥) → 0 ≡ added (Phase i a) s
-phase-off s b i a e h = let z : bit s i ≡ 0 = omega (arith, h) in sym (ap (a *_) z ∙ mul-zero a)
+pub scored-none : (n : ℕ) → n ≡ 0 → nonzero n ≡ 0
+scored-none n e = rw (eq-eqb n 0 e)
 
-pub scores-nothing : (i a : ℕ) → a ≡ 0 → 0 ≡ score (Phase i a ∷ [])
-unfolding score
-scores-nothing i a h = rw (eq-eqb a 0 h)
+pub scored-some : (n : ℕ) → (n ≡ 0 → ⊥) → nonzero n ≡ 1
+scored-some n e = rw (ne-eqb n 0 e)
 
-pub scores-one : (i a : ℕ) → (a ≡ 0 → ⊥) → 1 ≡ score (Phase i a ∷ [])
-unfolding score
-scores-one i a h = rw (ne-eqb a 0 h)
+scored-least : (n : ℕ) → nonzero n ≤ 1
+scored-least n = by (ℕ-discrete n 0)
+  where
+    by : Dec (n ≡ 0) → nonzero n ≤ 1
+    by (yes e) = let z = scored-none n e in omega arith
+    by (no e) = let z = scored-some n e in omega arith
 
-pub mixes : (g : Gate) (before after : List ℕ) (c t m n : ℕ) → g ≡ Cnot c t → m ≡ getD before t 0 → n ≡ getD before c 0 → after ≡ set before t (bitXor m n) → Walked g before after Mixed
-mixes g before after c t m n e p q r =
-    subst (λ (h : Gate). Walked h before after Mixed) (sym e) (record { meets = refl; leaves = r ∙ ap₂ (λ (x y : ℕ). set before t (bitXor x y)) p q })
+-- two numbers that are 0 together score alike
+scored-alike : (m n : ℕ) → (m ≡ 0 → n ≡ 0) → (n ≡ 0 → m ≡ 0) → nonzero m ≡ nonzero n
+scored-alike m n f g = by (ℕ-discrete m 0)
+  where
+    by : Dec (m ≡ 0) → nonzero m ≡ nonzero n
+    by (yes e) = scored-none m e ∙ sym (scored-none n (f e))
+    by (no e) = scored-some m e ∙ sym (scored-some n (λ d. e (g d)))
 
-pub meets-mask : (g : Gate) (before : List ℕ) (i a m : ℕ) → g ≡ Phase i a → m ≡ getD before i 0 → Walked g before before (Mask m a)
-meets-mask g before i a m e p = subst (λ (h : Gate). Walked h before before (Mask m a)) (sym e) (record { meets = ap (λ (n : ℕ). Mask n a) p; leaves = refl })
+-- the bit that a packed gate's wire holds, and the one that it turns
+abbrev pub held : ℕ → ℕ → ℕ
+held x s = bit s (x / 256 % 32)
 
--- one gate, as the code does it
-pub mixed-adds : (g : Gate) (ms after : List ℕ) (r : Met) (v : List ℕ) → Walked g ms after r → r ≡ Mixed → (after ≡ masksAfter g ms) × (v ≡ addMet (met g ms) v)
-mixed-adds g ms after r v w e = (w .leaves, ap (λ (m : Met). addMet m v) (sym e ∙ w .meets))
+abbrev pub turned : ℕ → ℕ → ℕ
+turned x s = held x s * (x % 2)
 
-pub mask-adds : (g : Gate) (ms after : List ℕ) (r : Met) (m a : ℕ) (v u : List ℕ) → Walked g ms after r → r ≡ Mask m a → u ≡ set v m ((getD v m 0 + a) % 65536)
-    → (after ≡ masksAfter g ms) × (u ≡ addMet (met g ms) v)
-mask-adds g ms after r m a v u w e p = (w .leaves, p ∙ ap (λ (k : Met). addMet k v) (sym e ∙ w .meets))
+-- the number of a gate's bytes does what the gate does
+module _ (k a b c : ℕ) (hk : k < 256) (ha : a < 256) (hb : b < 256) (hc : c < 256) where
+  abbrev x : ℕ
+  x = packed k a b c
+
+  pub packed-steps : (g : Gate) (s : ℕ) → gateBytes g ≡ k ∷ a ∷ b ∷ c ∷ [] → Sound 16 g → bitXor s (turned x s * 2 ^ (x / 65536 % 32)) ≡ stepped g s
+  packed-steps (Cnot i t) s e h =
+      let k1 : 1 ≡ k = cc e in
+      let ai : i ≡ a = cc e in
+      let bt : t ≡ b = cc e in
+      let odd : x % 2 ≡ 1 = omega arith in
+      let wire : x / 256 % 32 ≡ i = wire-bits k a b c hk ha hb hc ∙ omega (arith, h .0) in
+      let target : x / 65536 % 32 ≡ t = target-bits k a b c hk ha hb hc ∙ omega (arith, h .1) in
+      rw (odd, wire, target) (ap (λ (n : ℕ). bitXor s (n * 2 ^ t)) (mul-one (bit s i)))
+  packed-steps (Phase i n) s e h =
+      let k2 : 2 ≡ k = cc e in
+      let even : x % 2 ≡ 0 = omega arith in
+      rw (even, mul-zero (held x s), zero-mul (2 ^ (x / 65536 % 32))) (xor-zero-r s)
+
+  pub packed-turns : (g : Gate) (s : ℕ) → gateBytes g ≡ k ∷ a ∷ b ∷ c ∷ [] → Sound 16 g → (held x s - turned x s) * (x / 65536 % 256 * 256 + x / 16777216) ≡ added g s
+  packed-turns (Cnot i t) s e h =
+      let k1 : 1 ≡ k = cc e in
+      let odd : x % 2 ≡ 1 = omega arith in
+      let none : held x s - turned x s ≡ 0 = rw (odd, mul-one (held x s)) (omega arith) in
+      rw none (zero-mul (x / 65536 % 256 * 256 + x / 16777216))
+  packed-turns (Phase i n) s e h =
+      let k2 : 2 ≡ k = cc e in
+      let ai : i ≡ a = cc e in
+      let high : n / 256 ≡ b = cc e in
+      let low : n % 256 ≡ c = cc e in
+      let even : x % 2 ≡ 0 = omega arith in
+      let wire : x / 256 % 32 ≡ i = wire-bits k a b c hk ha hb hc ∙ omega (arith, h .0) in
+      let angle : x / 65536 % 256 * 256 + x / 16777216 ≡ n = angle-bytes k a b c hk ha hb hc ∙ omega arith in
+      rw (even, wire, angle, mul-zero (bit s i), sub-zero (bit s i)) (mul-comm (bit s i) n)
+
+  pub packed-cnots : (g : Gate) → gateBytes g ≡ k ∷ a ∷ b ∷ c ∷ [] → x % 2 ≡ cnots (g ∷ [])
+  unfolding cnots
+  packed-cnots (Cnot i t) e = let k1 : 1 ≡ k = cc e in omega arith
+  packed-cnots (Phase i n) e = let k2 : 2 ≡ k = cc e in omega arith
+
+  pub packed-scores : (g : Gate) → gateBytes g ≡ k ∷ a ∷ b ∷ c ∷ [] → nonzero (x / 65536) - x % 2 ≡ score (g ∷ [])
+  unfolding score
+  packed-scores (Cnot i t) e =
+      let k1 : 1 ≡ k = cc e in
+      let odd : x % 2 ≡ 1 = omega arith in
+      let few = scored-least (x / 65536) in
+      rw odd (omega arith)
+  packed-scores (Phase i n) e =
+      let k2 : 2 ≡ k = cc e in
+      let high : n / 256 ≡ b = cc e in
+      let low : n % 256 ≡ c = cc e in
+      let even : x % 2 ≡ 0 = omega arith in
+      let rest = behind-wire k a b c hk ha hb hc in
+      let same = scored-alike (x / 65536) n (λ z. omega arith) (λ z. omega arith) in
+      rw even (omega (arith, same))
+
+-- wires below 16 are what they are modulo 16
+pub modulo-sound : (g : Gate) → Sound 16 g → modulo g ≡ g
+modulo-sound (Cnot c t) h = ap₂ Cnot (omega (arith, h .0)) (omega (arith, h .1))
+modulo-sound (Phase i a) h = ap (λ (j : ℕ). Phase j a) (omega (arith, h .0))
+
+-- one gate of a walk that sums
+pub mixed-adds : (g : Gate) (ms after v : List ℕ) (c t : ℕ) → g ≡ Cnot c t → after ≡ masksAfter (modulo (Cnot c t)) ms → (after ≡ masksAfter (modulo g) ms) × (v ≡ addMet (met (modulo g) ms) v)
+mixed-adds g ms after v c t e p = subst (λ (h : Gate). (after ≡ masksAfter (modulo h) ms) × (v ≡ addMet (met (modulo h) ms) v)) (sym e) (p, refl)
+
+pub mask-adds : (g : Gate) (ms : List ℕ) (i a m n : ℕ) (v u : List ℕ) → g ≡ Phase i a → m ≡ getD ms (i % 16) 0 → n ≡ (getD v (m % 1024) 0 + a) % 65536 → u ≡ set v (m % 1024) n
+    → (ms ≡ masksAfter (modulo g) ms) × (u ≡ addMet (met (modulo g) ms) v)
+mask-adds g ms i a m n v u e q r p =
+    subst (λ (h : Gate). (ms ≡ masksAfter (modulo h) ms) × (u ≡ addMet (met (modulo h) ms) v)) (sym e)
+    (refl, p ∙ ap (set v (m % 1024)) r ∙ ap (λ (k : ℕ). addMet (Mask k a) v) q)

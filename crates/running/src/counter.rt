@@ -1,46 +1,20 @@
 // The count of a circuit's gates.
 use crate::Counted;
-use circuit::Decoded;
-use circuit::Gate;
+use crate::packed::four;
 use circuit::Reading;
-use circuit::gate_at;
 use circuit::read;
 ghost use mathlib.Core.Path.{_≡_};
-ghost use mathlib.Core.List.{[], _∷_};
+ghost use Prim.Native.Nat.{_-_, _/_, _%_};
 ghost use Rattle.refusal.specs.Checks.{outcome, passed};
 ghost use Rattle.running.specs.declared.Counted.the-variants.{Gates};
 ghost use Rattle.circuit.specs.File.{countOf, gatesOf, fileChecks};
-ghost use Rattle.running.specs.Run.{cnots, phases, score, Counts};
+ghost use Rattle.running.specs.Run.{nonzero, cnots, phases, score, Counts};
 
-// 1 for a CNOT.
-fn one_cnot(gate: Gate) -> usize
-    ensures { λ r. ⌜ r ≡ cnots (gate ∷ []) ⌝ }
+// 1 for a packed phase gate that the score counts: its kind is even, and not both bytes of its angle are 0.
+fn one_scored(x: u32) -> u32
+    ensures { λ r. ⌜ r ≡ nonzero (x / 65536) - x % 2 ⌝ }
 {
-    match gate {
-        Gate::Cnot {
-            control: _,
-            target: _,
-        } => 1,
-        Gate::Phase { wire: _, angle: _ } => 0,
-    }
-}
-
-// 1 for a phase gate that the score counts.
-fn one_scored(gate: Gate) -> usize
-    ensures { λ r. ⌜ r ≡ score (gate ∷ []) ⌝ }
-{
-    match gate {
-        Gate::Cnot {
-            control: _,
-            target: _,
-        } => 0,
-        Gate::Phase { wire: _, angle } => {
-            if angle == 0 {
-                return 0;
-            }
-            1
-        }
-    }
+    if x / 65536 == 0 { 0 } else { 1 - x % 2 }
 }
 
 // The counts of a good file's gates.
@@ -48,27 +22,20 @@ fn count_gates(file: &[u8], gates: usize) -> Counted
     requires { ⌜ (outcome (fileChecks 0 (now file)) ≡ passed) × (gates ≡ countOf (now file)) ⌝ }
     ensures { λ r. ⌜ r ≡ Gates (cnots (gatesOf (now (file .entry)))) (phases (gatesOf (now (file .entry)))) (score (gatesOf (now (file .entry)))) ⌝ }
 {
-    let mut cnots: usize = 0;
-    let mut score: usize = 0;
+    let mut cnots: u32 = 0;
+    let mut score: u32 = 0;
     let mut i: usize = 0;
     while i < gates {
-        let Decoded::Good(placed) = gate_at(file, i) else {
-            return Counted::Gates {
-                cnots,
-                phases: 0,
-                score,
-            };
-        };
-        let gate = placed.gate;
-        cnots += one_cnot(gate);
-        score += one_scored(gate);
+        let x = four(file, 8 + 4 * i);
+        cnots += x % 2;
+        score += one_scored(x);
         i += 1;
     }
-    let phases = gates - cnots;
+    let phases = gates - (cnots as usize);
     Counted::Gates {
-        cnots,
+        cnots: cnots as usize,
         phases,
-        score,
+        score: score as usize,
     }
 }
 

@@ -2,14 +2,17 @@
 use refusal::Refusal;
 
 mod counter;
+mod packed;
 mod runner;
 mod walker;
 
 pub use counter::count;
 pub use runner::run;
-pub use walker::add_gate;
-pub use walker::own_masks;
-pub use walker::walk;
+pub use walker::add_gates;
+pub use walker::empty_row;
+pub use walker::first_masks;
+pub use walker::mask_at;
+pub use walker::mix;
 
 // A run's answer.
 pub enum Ran {
@@ -25,10 +28,4 @@ pub enum Counted {
         score: usize,
     },
     Refused(Refusal),
-}
-
-// What a gate does to the masks: a phase gate meets the mask of its wire.
-pub enum Met {
-    Mixed,
-    Mask { mask: u16, angle: u16 },
 }

@@ -1,49 +1,45 @@
 // A run of a circuit on one starting state.
 use crate::Ran;
-use circuit::Decoded;
-use circuit::Gate;
+use crate::packed::four;
 use circuit::Reading;
-use circuit::gate_at;
 use circuit::read;
 use numbers::power;
 use refusal::Refusal;
 ghost use mathlib.Core.Path.{_≡_};
+ghost use Prim.Native.Nat.{_+_, _-_, _*_, _/_, _%_, _^_, _≤_};
+ghost use lib.Bits.{bitXor};
 ghost use Rattle.refusal.specs.Checks.{outcome, passed};
 ghost use Rattle.numbers.specs.Bits.{bit};
 ghost use Rattle.running.specs.declared.Ran.the-variants.{End};
-ghost use Rattle.circuit.specs.Gates.{Sound};
 ghost use Rattle.circuit.specs.File.{countOf, gatesOf, fileChecks};
-ghost use Rattle.running.specs.Run.{stepped, added, endFrom, phaseFrom, Runs};
+ghost use Rattle.running.specs.Run.{endFrom, phaseFrom, Runs};
 
-// A wire's bit of a state.
-fn bit_of(state: u16, wire: u8) -> u16
-    ensures { λ r. ⌜ r ≡ bit state wire ⌝ }
+// The bit of a packed gate's wire: of a CNOT, its control.
+fn bit_of(x: u32, state: u32) -> u32
+    ensures { λ r. ⌜ r ≡ bit state (x / 256 % 32) ⌝ }
 {
-    if wire < 16 { (state >> wire) % 2 } else { 0 }
+    (state >> (x / 256 % 32)) % 2
+}
+
+// 1 where a CNOT turns its target; a phase gate's kind is even.
+fn flip(x: u32, state: u32) -> u32
+    ensures { λ r. ⌜ r ≡ bit state (x / 256 % 32) * (x % 2) ⌝ }
+{
+    bit_of(x, state) * (x % 2)
 }
 
 // The state after a gate.
-fn step(gate: Gate, state: u16) -> u16
-    requires { ⌜ Sound 16 gate ⌝ }
-    ensures { λ r. ⌜ r ≡ stepped gate state ⌝ }
+fn step(x: u32, state: u32) -> u32
+    ensures { λ r. ⌜ r ≡ bitXor state (bit state (x / 256 % 32) * (x % 2) * 2 ^ (x / 65536 % 32)) ⌝ }
 {
-    match gate {
-        Gate::Cnot { control, target } => state ^ (bit_of(state, control) << target),
-        Gate::Phase { wire: _, angle: _ } => state,
-    }
+    state ^ (flip(x, state) << (x / 65536 % 32))
 }
 
 // What a gate adds to the phase.
-fn turn(gate: Gate, state: u16) -> u16
-    ensures { λ r. ⌜ r ≡ added gate state ⌝ }
+fn turn(x: u32, state: u32) -> u32
+    ensures { λ r. ⌜ (r ≡ (bit state (x / 256 % 32) - bit state (x / 256 % 32) * (x % 2)) * (x / 65536 % 256 * 256 + x / 16777216)) × (r ≤ 65535) ⌝ }
 {
-    match gate {
-        Gate::Cnot {
-            control: _,
-            target: _,
-        } => 0,
-        Gate::Phase { wire, angle } => { if bit_of(state, wire) == 1 { angle } else { 0 } }
-    }
+    (bit_of(x, state) - flip(x, state)) * (x / 65536 % 256 * 256 + x / 16777216)
 }
 
 // The run of a good file's gates.
@@ -51,19 +47,19 @@ fn run_gates(file: &[u8], gates: usize, start: u16) -> Ran
     requires { ⌜ (outcome (fileChecks 0 (now file)) ≡ passed) × (gates ≡ countOf (now file)) ⌝ }
     ensures { λ r. ⌜ r ≡ End (endFrom (gatesOf (now (file .entry))) start) (phaseFrom (gatesOf (now (file .entry))) start) ⌝ }
 {
-    let mut state = start;
-    let mut phase: u16 = 0;
+    let mut state: u32 = start as u32;
+    let mut phase: u32 = 0;
     let mut i: usize = 0;
     while i < gates {
-        let Decoded::Good(placed) = gate_at(file, i) else {
-            return Ran::End { state, phase };
-        };
-        let gate = placed.gate;
-        phase = std::num::wrapping_add_u16(phase, turn(gate, state));
-        state = step(gate, state);
+        let x = four(file, 8 + 4 * i);
+        phase += turn(x, state);
+        state = step(x, state);
         i += 1;
     }
-    Ran::End { state, phase }
+    Ran::End {
+        state: state as u16,
+        phase: (phase % 65536) as u16,
+    }
 }
 
 // The end state and the total phase of a run from `start`, or a refusal.

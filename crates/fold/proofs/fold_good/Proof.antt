@@ -25,6 +25,9 @@ room-of c =
     let t = c .before .before in
     room (a .file .now) (λ j. s .shared-slice-known .given j .fits) (s .before .pre .0 .0) (t .totals-of .result) (a .mixing) (c .count-nonzero .result) (t .totals-of .ensures) (s .before .pre .1 .0) (c .count-nonzero .ensures)
 
+cast-after : tie.Need-cast-after
+cast-after c = search needs
+
 add-kept : tie.Need-add-kept
 add-kept c = omega (arith, room-of c .few)
 
@@ -55,9 +58,6 @@ cast-put-header c = omega (arith, room-of (c .before .before) .few)
 put-header-requires : tie.Need-put-header-requires
 put-header-requires c κs = search needs
 
-slice-aggregate-write-gates : tie.Need-slice-aggregate-write-gates
-slice-aggregate-write-gates c = search needs
-
 write-gates-requires : tie.Need-write-gates-requires
 write-gates-requires c κs =
     let put = c .before .before .before .before in
@@ -75,7 +75,7 @@ same-length c = search needs
 
 returns-2 : tie.Need-returns-2
 returns-2 c =
-    let wrote = c .before .before .before .before in
+    let wrote = c .before .before .before in
     let put = wrote .before .before .before .before .before in
     let n = put .before .before .before .before in
     let s = n .before .before .before .before .before in
@@ -93,6 +93,7 @@ fold-good-spec =
     totals-of-requires
     slice-aggregate-count-nonzero
     count-nonzero-requires
+    cast-after
     add-kept
     mul-length
     add-length
@@ -101,7 +102,6 @@ fold-good-spec =
     shared-slice-read-put-header
     cast-put-header
     put-header-requires
-    slice-aggregate-write-gates
     write-gates-requires
     answer-requires
     same-length

@@ -7,7 +7,7 @@ use mathlib.Core.List.{List}
 use lib.Dec.{eqb}
 use lib.ListN.{length, getD}
 use borrow.Author.Needs.{needs}
-use Rattle.fold.specs.Totals.{nonzero}
+use Rattle.running.specs.Run.{nonzero}
 use Rattle.numbers.specs.Sums.{sum}
 use Rattle.fold.proofs.Scores.{at-most-one}
 use Rattle.fold.proofs.totals.count_nonzero.Statement.{statement}

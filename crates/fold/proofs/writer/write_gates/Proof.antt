@@ -1,12 +1,12 @@
 use Prim.Native.Nat.{ℕ, _-_, _≤_}
 use native.Mathlib.Omega.{arith}
-use mathlib.Core.Path.{_≡_, refl, sym, _∙_}
+use mathlib.Core.Path.{_≡_, refl, _∙_}
 use mathlib.Core.List.{List}
 use lib.ListN.{length}
 use borrow.Author.Needs.{needs}
 use Rattle.circuit.specs.Gates.{bytesOf, putAt}
 use Rattle.circuit.specs.File.{wiresOf, gatesOf}
-use Rattle.circuit.proofs.Files.{good-file, gate-next, gate-not-bad}
+use Rattle.circuit.proofs.Files.{GoodFile, good-file, gate-said, saidAt}
 use Rattle.fold.specs.Fold.{folded}
 use Rattle.fold.specs.Totals.{leaves}
 use Rattle.fold.proofs.Writing.{Writing, writing-starts, room-left, writing-goes-on, writing-ends}
@@ -19,55 +19,61 @@ goal file out = putAt (bytesOf (folded (wiresOf file) (gatesOf file))) 8 out
 
 abbrev Inv-loop : tie.InvT-loop
 Inv-loop file gates totals₀ out₀ masks₀ at₀ i₀ totals out masks at i =
-    (i ≤ gates) × (length totals ≡ length totals₀) × (length out ≡ length out₀) × Writing file (goal file out₀) masks totals out at i
+    (i ≤ gates) × (length out ≡ length out₀) × Writing file (goal file out₀) masks totals out at i
 
 abbrev μ-loop : tie.MeasureT-loop
 μ-loop file gates totals₀ out₀ masks₀ at₀ i₀ totals out masks at i = gates - i
 
-slice-aggregate-own-masks : tie.Need-slice-aggregate-own-masks Inv-loop μ-loop
-slice-aggregate-own-masks c = refl
+first-masks-requires : tie.Need-first-masks-requires Inv-loop μ-loop
+first-masks-requires c κs = search needs
 
-own-masks-requires : tie.Need-own-masks-requires Inv-loop μ-loop
-own-masks-requires c κs = search needs
+-- the file at each gate
+file-of : (c : tie.In-loop Inv-loop μ-loop) → GoodFile (c .before .before .before .before .before .args .file .now)
+file-of c = let start = c .before .before .before .before .before in good-file 0 (start .args .file .now) (start .pre .0 .0)
 
 loop-holds : tie.Need-loop-holds Inv-loop μ-loop
 loop-holds c =
-    let s = c .before .before .before .before .before in
-    let a = s .before .args in
-    (omega arith, refl, refl, writing-starts (a .file .now) (λ j. s .shared-slice-known .given j .fits) (s .before .pre .0 .0) (c .before .own-masks .last .0) (a .totals .now) (a .out .now) (c .before .own-masks .ensures) (s .before .pre .1 .0) (s .before .pre .1 .1))
+    let start = c .before .before .before in
+    let a = start .args in
+    (omega arith, refl, writing-starts (a .file .now) (λ j. c .before .before .shared-slice-known .given j .fits) (start .pre .0 .0) (c .first-masks .result) (a .totals .now) (a .out .now) (c .first-masks .ensures) (start .pre .1 .0) (start .pre .1 .1))
 
-gate-at-requires : tie.Need-gate-at-requires Inv-loop μ-loop
-gate-at-requires c κs = search needs
+mul-from : tie.Need-mul-from Inv-loop μ-loop
+mul-from c = let g = file-of c in omega (arith, g .whole, g .count)
 
-enum-known-placed : tie.Need-enum-known-placed Inv-loop μ-loop
-enum-known-placed c = search needs
+add-from : tie.Need-add-from Inv-loop μ-loop
+add-from c = let g = file-of c in omega (arith, g .whole, g .count)
 
-enum-told : tie.Need-enum-told Inv-loop μ-loop
-enum-told c = search needs
+shared-slice-read-gate-of : tie.Need-shared-slice-read-gate-of Inv-loop μ-loop
+shared-slice-read-gate-of c = let g = file-of (c .before) in omega (arith, g .whole, g .count)
 
-same-length : tie.Need-same-length Inv-loop μ-loop
-same-length c = c .before .before .before .before .loop .inv .1
+add-gate-of : tie.Need-add-gate-of Inv-loop μ-loop
+add-gate-of c = let g = file-of (c .before) in omega (arith, g .whole, g .count)
 
-same-length-2 : tie.Need-same-length-2 Inv-loop μ-loop
-same-length-2 c = c .before .before .before .before .loop .inv .2
+shared-slice-read-gate-of-2 : tie.Need-shared-slice-read-gate-of-2 Inv-loop μ-loop
+shared-slice-read-gate-of-2 c = let g = file-of (c .before .before) in omega (arith, g .whole, g .count)
 
-returns : tie.Need-returns Inv-loop μ-loop
-returns c =
-    let got = c .before .before in
-    let at = got .before .before in
-    let s = at .before .before .before .before .before .before in
-    absurd (gate-not-bad (s .before .args .file .now) (λ j. s .shared-slice-known .given j .fits) (good-file 0 (s .before .args .file .now) (s .before .pre .0 .0)) (at .loop .i) (omega arith) (sym (got .gate-at .ensures) ∙ c .enum-told .given .1))
+add-gate-of-2 : tie.Need-add-gate-of-2 Inv-loop μ-loop
+add-gate-of-2 c = let g = file-of (c .before .before) in omega (arith, g .whole, g .count)
 
-slice-aggregate-fold-gate : tie.Need-slice-aggregate-fold-gate Inv-loop μ-loop
-slice-aggregate-fold-gate c = sym (c .before .before .before .before .before .before .loop .inv .3 .wide)
+shared-slice-read-gate-of-3 : tie.Need-shared-slice-read-gate-of-3 Inv-loop μ-loop
+shared-slice-read-gate-of-3 c = let g = file-of (c .before .before .before) in omega (arith, g .whole, g .count)
+
+add-gate-of-3 : tie.Need-add-gate-of-3 Inv-loop μ-loop
+add-gate-of-3 c = let g = file-of (c .before .before .before) in omega (arith, g .whole, g .count)
+
+shared-slice-read-gate-of-4 : tie.Need-shared-slice-read-gate-of-4 Inv-loop μ-loop
+shared-slice-read-gate-of-4 c = let g = file-of (c .before .before .before .before) in omega (arith, g .whole, g .count)
+
+gate-of-requires : tie.Need-gate-of-requires Inv-loop μ-loop
+gate-of-requires c κs = search needs
 
 fold-gate-requires : tie.Need-fold-gate-requires Inv-loop μ-loop
 fold-gate-requires c κs = search needs
 
 put-left-requires : tie.Need-put-left-requires Inv-loop μ-loop
 put-left-requires c κs =
-    let at = c .before .before .before .before .before .before .before .before .before .before .before .before in
-    room-left (at .before .before .before .before .before .before .before .args .file .now) _ (at .loop .i) (at .loop .masks) (at .loop .totals) (at .loop .out) (at .loop .at) (at .loop .inv .3)
+    let at = c .before .before .before .before .before .before .before .before .before .before in
+    room-left (at .before .before .before .before .args .file .now) _ (at .loop .i) (at .loop .masks) (at .loop .totals) (at .loop .out) (at .loop .at) (at .loop .inv .2)
 
 add-i : tie.Need-add-i Inv-loop μ-loop
 add-i c = omega arith
@@ -78,29 +84,27 @@ loop-less c = omega arith
 loop-again : tie.Need-loop-again Inv-loop μ-loop
 loop-again c =
     let put = c .before .before in
-    let left = put .before .before .before .before .before in
-    let found = left .before .before .before .before in
-    let got = found .before .before in
-    let at = got .before .before in
-    let s = at .before .before .before .before .before .before in
-    let a = s .before .args in
+    let left = put .before .before in
+    let said = left .before .before .before in
+    let turn = said .before .before .before .before .before in
+    let at = turn .before in
+    let start = at .before .before .before .before in
+    let a = start .args in
     let f = a .file .now in
-    let q = found .placed .given .0 .0 in
-    let d = gate-next f (λ j. s .shared-slice-known .given j .fits) (good-file 0 f (s .before .pre .0 .0)) (at .loop .i) q (omega arith) (sym (got .gate-at .ensures) ∙ found .placed .given .1) .0 in
-    (omega arith, left .fold-gate .kept .1 .1 .0 ∙ at .loop .inv .1, put .put-left .kept .1 .0 ∙ at .loop .inv .2, writing-goes-on f (goal f (a .out .now)) (at .loop .i) (at .loop .masks) (at .loop .totals) (at .loop .out) (at .loop .at) (at .loop .inv .3) (q .gate) (leaves (left .fold-gate .result)) (left .fold-gate .last .1 .0) (left .fold-gate .last .1 .1 .0) d (left .fold-gate .ensures .0) (left .fold-gate .ensures .1 .0) (left .fold-gate .ensures .1 .1) (put .put-left .last .1 .0) (put .put-left .result) (put .put-left .ensures .1) (put .put-left .ensures .0))
+    let g = file-of turn in
+    let d = gate-said f (λ j. at .before .before .before .shared-slice-known .given j .fits) g (at .loop .i) (omega arith) in
+    let same : said .gate-of .result ≡ saidAt f (at .loop .i) = said .gate-of .ensures in
+    (omega arith, put .put-left .kept .1 .0 ∙ at .loop .inv .1, writing-goes-on f (goal f (a .out .now)) (at .loop .i) (at .loop .masks) (at .loop .totals) (at .loop .out) (at .loop .at) (at .loop .inv .2) (said .gate-of .result) (leaves (left .fold-gate .result)) (left .fold-gate .last .1 .0) (left .fold-gate .last .1 .1 .0) (rw same (d .0)) (rw same (d .1)) (g .few) (left .fold-gate .ensures .0) (left .fold-gate .ensures .1 .0) (left .fold-gate .ensures .1 .1) (put .put-left .last .1 .0) (put .put-left .result) (put .put-left .ensures .1) (put .put-left .ensures .0))
 
-same-length-3 : tie.Need-same-length-3 Inv-loop μ-loop
-same-length-3 c = c .before .loop .inv .1
+same-length : tie.Need-same-length Inv-loop μ-loop
+same-length c = c .before .loop .inv .1
 
-same-length-4 : tie.Need-same-length-4 Inv-loop μ-loop
-same-length-4 c = c .before .loop .inv .2
-
-returns-2 : tie.Need-returns-2 Inv-loop μ-loop
-returns-2 c =
+returns : tie.Need-returns Inv-loop μ-loop
+returns c =
     let at = c .before in
-    let s = at .before .before .before .before .before .before in
-    let f = s .before .args .file .now in
-    writing-ends f (λ j. s .shared-slice-known .given j .fits) (s .before .pre .0 .0) (goal f (s .before .args .out .now)) (at .loop .masks) (at .loop .totals) (at .loop .out) (at .loop .at) (at .loop .i) (omega arith) (at .loop .inv .3)
+    let start = at .before .before .before .before in
+    let f = start .args .file .now in
+    writing-ends f (λ j. at .before .before .before .shared-slice-known .given j .fits) (start .pre .0 .0) (goal f (start .args .out .now)) (at .loop .masks) (at .loop .totals) (at .loop .out) (at .loop .at) (at .loop .i) (omega arith) (at .loop .inv .2)
 
 pub write-gates-spec : {M : Type 1} → statement M
 write-gates-spec =
@@ -108,21 +112,22 @@ write-gates-spec =
     (tie.spec
     Inv-loop
     μ-loop
-    slice-aggregate-own-masks
-    own-masks-requires
+    first-masks-requires
     loop-holds
-    gate-at-requires
-    enum-known-placed
-    enum-told
-    same-length
-    same-length-2
-    returns
-    slice-aggregate-fold-gate
+    mul-from
+    add-from
+    shared-slice-read-gate-of
+    add-gate-of
+    shared-slice-read-gate-of-2
+    add-gate-of-2
+    shared-slice-read-gate-of-3
+    add-gate-of-3
+    shared-slice-read-gate-of-4
+    gate-of-requires
     fold-gate-requires
     put-left-requires
     add-i
     loop-less
     loop-again
-    same-length-3
-    same-length-4
-    returns-2)
+    same-length
+    returns)

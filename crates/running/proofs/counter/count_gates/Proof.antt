@@ -1,9 +1,7 @@
 use Prim.Native.Nat.{_-_, _≤_}
 use native.Mathlib.Omega.{arith}
-use mathlib.Core.Path.{sym, _∙_}
 use borrow.Author.Needs.{needs}
-use Rattle.running.proofs.Counts.{one-counted}
-use Rattle.running.proofs.Loops.{Counting, count-starts, never-bad, count-goes-on, count-ends}
+use Rattle.running.proofs.Loops.{Counting, count-starts, four-inside, few-gates, count-goes-on, count-ends}
 use Rattle.running.proofs.counter.count_gates.Statement.{statement}
 use Rattle.running.proofs.counter.count_gates.Tie as tie
 
@@ -16,32 +14,33 @@ abbrev μ-loop : tie.MeasureT-loop
 loop-holds : tie.Need-loop-holds Inv-loop μ-loop
 loop-holds c = (omega arith, count-starts (c .before .args .file .now))
 
-gate-at-requires : tie.Need-gate-at-requires Inv-loop μ-loop
-gate-at-requires c κs = search needs
+mul-four : tie.Need-mul-four Inv-loop μ-loop
+mul-four c =
+    let at = c .before in
+    omega (arith, few-gates (at .before .before .args .file .now) (λ j. at .before .shared-slice-known .given j .fits) (at .before .before .pre .0) (at .loop .i))
 
-enum-known-placed : tie.Need-enum-known-placed Inv-loop μ-loop
-enum-known-placed c = search needs
+add-four : tie.Need-add-four Inv-loop μ-loop
+add-four c =
+    let at = c .before in
+    omega (arith, few-gates (at .before .before .args .file .now) (λ j. at .before .shared-slice-known .given j .fits) (at .before .before .pre .0) (at .loop .i))
 
-enum-told : tie.Need-enum-told Inv-loop μ-loop
-enum-told c = search needs
-
-returns : tie.Need-returns Inv-loop μ-loop
-returns c =
-    let got = c .before .before in
-    let at = got .before .before in
-    never-bad (at .before .before .args .file .now) (λ j. at .before .shared-slice-known .given j .fits) (at .before .before .pre .0) (at .loop .i) (omega arith) (sym (got .gate-at .ensures) ∙ c .enum-told .given .1)
-
-one-cnot-requires : tie.Need-one-cnot-requires Inv-loop μ-loop
-one-cnot-requires c κs = search needs
+four-requires : tie.Need-four-requires Inv-loop μ-loop
+four-requires c κs =
+    let at = c .before in
+    four-inside (at .before .before .args .file .now) (λ j. at .before .shared-slice-known .given j .fits) (at .before .before .pre .0) (at .loop .i) (omega arith)
 
 add-cnots : tie.Need-add-cnots Inv-loop μ-loop
-add-cnots c = omega (arith, one-counted (c .before .before .placed .given .0 .0 .gate))
+add-cnots c =
+    let at = c .before .before in
+    omega (arith, at .loop .inv .1 .few, few-gates (at .before .before .args .file .now) (λ j. at .before .shared-slice-known .given j .fits) (at .before .before .pre .0) (at .loop .i))
 
 one-scored-requires : tie.Need-one-scored-requires Inv-loop μ-loop
 one-scored-requires c κs = search needs
 
 add-score : tie.Need-add-score Inv-loop μ-loop
-add-score c = omega (arith, one-counted (c .before .before .before .placed .given .0 .0 .gate))
+add-score c =
+    let at = c .before .before .before in
+    omega (arith, count-goes-on (at .before .before .args .file .now) (λ j. at .before .shared-slice-known .given j .fits) (at .before .before .pre .0) (at .loop .i) (at .loop .cnots) (at .loop .score) (c .before .four .result) (c .one-scored .result) (omega arith) (c .before .four .ensures) (c .one-scored .ensures) (at .loop .inv .1) .few, few-gates (at .before .before .args .file .now) (λ j. at .before .shared-slice-known .given j .fits) (at .before .before .pre .0) (at .loop .i))
 
 add-i : tie.Need-add-i Inv-loop μ-loop
 add-i c = omega arith
@@ -51,18 +50,24 @@ loop-less c = omega arith
 
 loop-again : tie.Need-loop-again Inv-loop μ-loop
 loop-again c =
-    let first = c .before in
-    let found = first .before .before in
-    let got = found .before .before in
-    let at = got .before .before in
+    let at = c .before .before .before in
     let a = at .before .before .args in
-    (omega arith, count-goes-on (a .file .now) (λ j. at .before .shared-slice-known .given j .fits) (at .before .before .pre .0) (at .loop .i) (at .loop .cnots) (at .loop .score) (first .one-cnot .result) (c .one-scored .result) (found .placed .given .0 .0) (omega arith) (sym (got .gate-at .ensures) ∙ found .placed .given .1) (first .one-cnot .ensures) (c .one-scored .ensures) (at .loop .inv .1))
+    (omega arith, count-goes-on (a .file .now) (λ j. at .before .shared-slice-known .given j .fits) (at .before .before .pre .0) (at .loop .i) (at .loop .cnots) (at .loop .score) (c .before .four .result) (c .one-scored .result) (omega arith) (c .before .four .ensures) (c .one-scored .ensures) (at .loop .inv .1))
+
+cast-phases : tie.Need-cast-phases Inv-loop μ-loop
+cast-phases c = search needs
 
 sub-phases : tie.Need-sub-phases Inv-loop μ-loop
-sub-phases c = omega arith
+sub-phases c = omega (arith, c .before .loop .inv .1 .few)
 
-returns-2 : tie.Need-returns-2 Inv-loop μ-loop
-returns-2 c =
+cast-t12 : tie.Need-cast-t12 Inv-loop μ-loop
+cast-t12 c = search needs
+
+cast-t13 : tie.Need-cast-t13 Inv-loop μ-loop
+cast-t13 c = search needs
+
+returns : tie.Need-returns Inv-loop μ-loop
+returns c =
     let at = c .before in
     let a = at .before .before .args in
     count-ends (a .file .now) (λ j. at .before .shared-slice-known .given j .fits) (at .before .before .pre .0) (at .loop .i) (at .loop .cnots) (at .loop .score) (a .gates) (at .before .before .pre .1) (omega arith) (at .loop .inv .1)
@@ -74,16 +79,17 @@ count-gates-spec =
     Inv-loop
     μ-loop
     loop-holds
-    gate-at-requires
-    enum-known-placed
-    enum-told
-    returns
-    one-cnot-requires
+    mul-four
+    add-four
+    four-requires
     add-cnots
     one-scored-requires
     add-score
     add-i
     loop-less
     loop-again
+    cast-phases
     sub-phases
-    returns-2)
+    cast-t12
+    cast-t13
+    returns)

@@ -1,37 +1,22 @@
 use native.Mathlib.Omega.{arith}
-use mathlib.Core.Path.{sym, ap, subst, _∙_}
-use Rattle.circuit.specs.declared.Gate.{Gate}
-use Rattle.circuit.specs.Gates.{Sound}
-use Rattle.running.specs.Run.{stepped}
-use Rattle.running.proofs.Stepping.{cnot-steps}
+use mathlib.Core.Path.{refl}
+use Prim.Native.Nat.{_/_, _%_}
+use Rattle.running.proofs.Stepping.{held, turned, bit-apart, bit-shifted}
 use borrow.Author.Needs.{needs}
 use Rattle.running.proofs.runner.step.Statement.{statement}
 use Rattle.running.proofs.runner.step.Tie as tie
 
-enum-known-gate : tie.Need-enum-known-gate
-enum-known-gate c = search needs
-
-bit-of-requires : tie.Need-bit-of-requires
-bit-of-requires c κs = search needs
-
-cast-result : tie.Need-cast-result
-cast-result c = search needs
+flip-requires : tie.Need-flip-requires
+flip-requires c κs = search needs
 
 shl-result : tie.Need-shl-result
-shl-result c =
-    let h = subst (Sound 16) (c .before .before .gate .given .1) (c .before .before .before .before .pre) in
-    omega (arith, h .0, h .1)
-
-enum-told : tie.Need-enum-told
-enum-told c = search needs
+shl-result c = search needs
 
 returns : tie.Need-returns
-returns c = let k = c .before .before in let s = k .before .before .args .state in cnot-steps s (c .bit-of .result) (k .gate .given .0 .0) (k .gate .given .0 .1 .0) (c .bit-of .ensures) (shl-result c) ∙ ap (λ (g : Gate). stepped g s) (sym (k .gate .given .1))
-
-returns-2 : tie.Need-returns-2
-returns-2 c = search needs
+returns c =
+    let a = c .before .args in
+    let l = bit-apart (held (a .x) (a .state)) (c .flip .result) (held (a .x) (a .state)) (a .x % 2) refl (c .flip .ensures) (omega arith) (omega arith) in
+    bit-shifted (a .state) (c .flip .result) (turned (a .x) (a .state)) (a .x / 65536 % 32) (c .flip .ensures) (l .1) (omega arith)
 
 pub step-spec : {M : Type 1} → statement M
-step-spec =
-    tie.close
-    (tie.spec enum-known-gate bit-of-requires cast-result shl-result enum-told returns returns-2)
+step-spec = tie.close (tie.spec flip-requires shl-result returns)

@@ -1,57 +1,65 @@
+use mathlib.Core.Path.{refl}
 use Rattle.running.proofs.Stepping.{mixed-adds, mask-adds}
 use borrow.Author.Needs.{needs}
 use Rattle.running.proofs.walker.add_gate.Statement.{statement}
 use Rattle.running.proofs.walker.add_gate.Tie as tie
 
-walk-requires : tie.Need-walk-requires
-walk-requires c κs = search needs
+enum-known-gate : tie.Need-enum-known-gate
+enum-known-gate c = search needs
 
-enum-told : tie.Need-enum-told
-enum-told c = search needs
+mix-requires : tie.Need-mix-requires
+mix-requires c κs = search needs
 
-enum-known-mask : tie.Need-enum-known-mask
-enum-known-mask c = search needs
+enum-known-gate-2 : tie.Need-enum-known-gate-2
+enum-known-gate-2 c = search needs
 
-add-at-requires : tie.Need-add-at-requires
-add-at-requires c κs = search needs
+mask-at-requires : tie.Need-mask-at-requires
+mask-at-requires c κs = search needs
 
-same-length : tie.Need-same-length
-same-length c = search needs
+cast-at : tie.Need-cast-at
+cast-at c = search needs
+
+mul-wrapping-add-u16 : tie.Need-mul-wrapping-add-u16
+mul-wrapping-add-u16 c = search needs
+
+element-copy-out-wrapping-add-u16 : tie.Need-element-copy-out-wrapping-add-u16
+element-copy-out-wrapping-add-u16 c = search needs
+
+wrapping-add-u16-requires : tie.Need-wrapping-add-u16-requires
+wrapping-add-u16-requires c κs = search needs
+
+mul-row : tie.Need-mul-row
+mul-row c = search needs
+
+element-write-row : tie.Need-element-write-row
+element-write-row c = search needs
 
 returns : tie.Need-returns
 returns c =
-    let w = c .before .before .before .before in
-    let a = w .before .before .before .before .args in
-    mixed-adds (a .gate) (a .masks .now) (w .walk .last .0) (w .walk .result) (a .row .now) (w .walk .ensures) (c .enum-told .given .1)
-
-same-length-2 : tie.Need-same-length-2
-same-length-2 c = search needs
-
-same-length-3 : tie.Need-same-length-3
-same-length-3 c = search needs
+    let found = c .before .before .before .gate .given in
+    let a = c .before .before .before .before .before .args in
+    mixed-adds (a .gate) (a .masks .now) (c .mix .last .0) (a .row .now) (found .0 .0) (found .0 .1 .0) (found .1) (c .mix .ensures)
 
 returns-2 : tie.Need-returns-2
 returns-2 c =
-    let after-add-at = c .before .before in
-    let after-mask = after-add-at .before .before .before in
-    let after-walk = after-mask .before .before .before .before in
-    let start = after-walk .before .before .before .before in
-    let w = after-walk in
-    let a = start .args in
-    let m = after-mask .mask .given in
-    let p = after-add-at .add-at in
-    mask-adds (a .gate) (a .masks .now) (w .walk .last .0) (w .walk .result) (m .0 .0) (m .0 .1 .0) (a .row .now) (p .last .0) (w .walk .ensures) (m .1) (p .ensures)
+    let mask = c .before .before in
+    let found = mask .before .before .before .gate2 .given in
+    let a = mask .before .before .before .before .before .args in
+    mask-adds (a .gate) (a .masks .now) (found .0 .0) (found .0 .1 .0) (mask .mask-at .result) (c .wrapping-add-u16 .result) (a .row .now) _ (found .1) (mask .mask-at .ensures) (c .wrapping-add-u16 .ensures) refl
 
 pub add-gate-spec : {M : Type 1} → statement M
 add-gate-spec =
     tie.close
     (tie.spec
-    walk-requires
-    enum-told
-    enum-known-mask
-    add-at-requires
-    same-length
+    enum-known-gate
+    mix-requires
+    enum-known-gate-2
+    mask-at-requires
+    cast-at
+    mul-wrapping-add-u16
+    element-copy-out-wrapping-add-u16
+    wrapping-add-u16-requires
+    mul-row
+    element-write-row
     returns
-    same-length-2
-    same-length-3
     returns-2)
