@@ -20,17 +20,18 @@ use Rattle.refusal.specs.Checks.{passed, outcome}
 use Rattle.circuit.specs.Gates.{AllSound}
 use Rattle.circuit.specs.File.{wiresOf, gatesOf, fileChecks}
 use Rattle.running.specs.Run.{endFrom}
-use Rattle.running.specs.Masks.{powers}
 use Rattle.circuit.proofs.Decoding.{Bytes}
 use Rattle.circuit.proofs.Files.{good-file, file-sound}
-use Rattle.running.proofs.Masks.{powers-own}
 use Rattle.verdict.specs.declared.Verdict.{Verdict}
 use Rattle.verdict.specs.declared.Verdict.the-variants.{Same, Different}
 use Rattle.verdict.specs.Coefficients.{coefficient, difference, differences}
 use Rattle.verdict.specs.Verdicts.{Side, circuit, verdictAt, verdict}
-use Rattle.verdict.specs.Working.{entry, endOf, Lowest, Place, Settled, Decided}
+use Rattle.running.specs.Masks.{firstMasks}
+use Rattle.verdict.proofs.Ends.{own-column}
+use Rattle.verdict.specs.Working.{entry, column, endOf, Lowest, Place, Settled, Decided}
 use Rattle.verdict.proofs.Lowest.{lowest-map, verdict-found}
 use Rattle.verdict.proofs.Scanning.{Summed, scan-finds, scan-phase}
+use Rattle.verdict.proofs.Settling.{difference-none, none-difference}
 use Rattle.verdict.proofs.Sides.{circuit-summed}
 
 -- a row of single-wire ends gives every end
@@ -43,19 +44,18 @@ end-of w a c s ends x e h =
     (λ i k. ap (bit x i *_) (ap (λ (m : List ℕ). entry m i) e ∙ getD-list w (λ j. a .end (2 ^ j)) i 0 k))
     ∙ sym (by-bits (a .end) (s .linear) w x h)
 
-module _ (w : ℕ) (a b : Side) (c d : ℕ → ℕ) (sa : Summed w a c) (sb : Summed w b d) (first second firsts seconds : List ℕ)
-    (ec : first ≡ list (2 ^ w) c) (ed : second ≡ list (2 ^ w) d) (ea : firsts ≡ list w (λ i. a .end (2 ^ i))) (eb : seconds ≡ list w (λ i. b .end (2 ^ i))) where
-  long : length first ≡ 2 ^ w
-  long = ap length ec ∙ length-list (2 ^ w) c
+module _ (w : ℕ) (a b : Side) (c d : ℕ → ℕ) (sa : Summed w a c) (sb : Summed w b d) (row firsts seconds : List ℕ)
+    (er : row ≡ differences w c d) (ea : firsts ≡ list w (λ i. a .end (2 ^ i))) (eb : seconds ≡ list w (λ i. b .end (2 ^ i))) where
+  long : length row ≡ 2 ^ w
+  unfolding differences
+  long = ap length er ∙ length-list (2 ^ w) (λ s. difference (c s) (d s))
 
   wires : length firsts ≡ w
   wires = ap length ea ∙ length-list w (λ i. a .end (2 ^ i))
 
-  first-at : (s : ℕ) → s < 2 ^ w → entry first s ≡ c s
-  first-at s h = ap (λ (l : List ℕ). entry l s) ec ∙ getD-list (2 ^ w) c s 0 h
-
-  second-at : (s : ℕ) → s < 2 ^ w → entry second s ≡ d s
-  second-at s h = ap (λ (l : List ℕ). entry l s) ed ∙ getD-list (2 ^ w) d s 0 h
+  row-at : (s : ℕ) → s < 2 ^ w → entry row s ≡ difference (c s) (d s)
+  unfolding differences
+  row-at s h = ap (λ (l : List ℕ). entry l s) er ∙ getD-list (2 ^ w) (λ s. difference (c s) (d s)) s 0 h
 
   firsts-at : (i : ℕ) → i < w → entry firsts i ≡ a .end (2 ^ i)
   firsts-at i h = ap (λ (l : List ℕ). entry l i) ea ∙ getD-list w (λ i. a .end (2 ^ i)) i 0 h
@@ -63,7 +63,7 @@ module _ (w : ℕ) (a b : Side) (c d : ℕ → ℕ) (sa : Summed w a c) (sb : Su
   seconds-at : (i : ℕ) → i < w → entry seconds i ≡ b .end (2 ^ i)
   seconds-at i h = ap (λ (l : List ℕ). entry l i) eb ∙ getD-list w (λ i. b .end (2 ^ i)) i 0 h
 
-  module _ (answer : Verdict) (after : List ℕ) (s : Settled first second firsts seconds answer after) where
+  module _ (answer : Verdict) (s : Settled row firsts seconds answer) where
     p : ℕ
     p = s .state
 
@@ -75,9 +75,9 @@ module _ (w : ℕ) (a b : Side) (c d : ℕ → ℕ) (sa : Summed w a c) (sb : Su
           place = q .place;
           wire = q .wire;
           places =
-              lowest-map (λ s. entry first s ≡ entry second s) (λ s. c s ≡ d s) (2 ^ w) (q .place)
-              (λ k h e. sym (first-at k h) ∙ e ∙ second-at k h) (λ k h e. first-at k h ∙ e ∙ sym (second-at k h))
-              (subst (λ (n : ℕ). Lowest (λ s. entry first s ≡ entry second s) n (q .place)) long (q .places));
+              lowest-map (λ s. entry row s ≡ 0) (λ s. c s ≡ d s) (2 ^ w) (q .place)
+              (λ k h e. difference-none (c k) (d k) (sa .small k) (sb .small k) (sym (row-at k h) ∙ e)) (λ k h e. row-at k h ∙ none-difference (c k) (d k) (sa .small k) e)
+              (subst (λ (n : ℕ). Lowest (λ s. entry row s ≡ 0) n (q .place)) long (q .places));
           wires =
               lowest-map (λ i. entry firsts i ≡ entry seconds i) (λ j. a .end (2 ^ j) ≡ b .end (2 ^ j)) w (q .wire)
               (λ k h e. sym (firsts-at k h) ∙ e ∙ seconds-at k h) (λ k h e. firsts-at k h ∙ e ∙ sym (seconds-at k h))
@@ -91,25 +91,19 @@ module _ (w : ℕ) (a b : Side) (c d : ℕ → ℕ) (sa : Summed w a c) (sb : Su
     pub decided : answer ≡ verdict w a b
     unfolding p
     decided =
-        s .answers ∙ ap (λ (n : ℕ). cond (ltb p n) (Different p (endOf firsts p) (endOf seconds p) (difference (entry first p) (entry second p))) Same) long
+        s .answers ∙ ap (λ (n : ℕ). cond (ltb p n) (Different p (endOf firsts p) (endOf seconds p) (entry row p)) Same) long
         ∙ by (decLt p (2 ^ w)) ∙ sym (verdict-found a b w p (scan-finds w a b c d sa sb p sides-place))
       where
-        by : Dec (p < 2 ^ w) → cond (ltb p (2 ^ w)) (Different p (endOf firsts p) (endOf seconds p) (difference (entry first p) (entry second p))) Same ≡ verdictAt w a b p
+        by : Dec (p < 2 ^ w) → cond (ltb p (2 ^ w)) (Different p (endOf firsts p) (endOf seconds p) (entry row p)) Same ≡ verdictAt w a b p
         by (yes h) =
             let x : endOf firsts p ≡ a .end p = end-of w a c sa firsts p ea h in
             let y : endOf seconds p ≡ b .end p = end-of w b d sb seconds p eb h in
-            let z : difference (entry first p) (entry second p) ≡ difference (a .phase p) (b .phase p) = ap₂ difference (first-at p h) (second-at p h) ∙ sym (scan-phase w a b c d sa sb p sides-place h) in
+            let z : entry row p ≡ difference (a .phase p) (b .phase p) = row-at p h ∙ sym (scan-phase w a b c d sa sb p sides-place h) in
             rw (lt-ltb p (2 ^ w) h) (λ i. Different p (x i) (y i) (z i))
         by (no h) = rw (le-ltb p (2 ^ w) (omega arith))
 
-    pub decided-row : after ≡ differences w c d
-    unfolding differences
-    decided-row =
-        s .leaves ∙ ap (λ (n : ℕ). list n (λ s. difference (entry first s) (entry second s))) long
-        ∙ list-ext (2 ^ w) (λ s. difference (entry first s) (entry second s)) (λ s. difference (c s) (d s)) (λ s h. ap₂ difference (first-at s h) (second-at s h))
-
-    pub decides : Decided w a b c d answer after
-    decides = record { answers = decided; leaves = decided-row }
+    pub decides : Decided w a b c d answer row
+    decides = record { answers = decided; leaves = er }
 
 -- a row of n entries, and the front of a longer one that holds it
 pub record Row (x : List ℕ) (n : ℕ) (f : ℕ → ℕ) : Type 0 where
@@ -134,10 +128,6 @@ module _ {x : List ℕ} {n : ℕ} {f : ℕ → ℕ} (r : Row x n f) where
   pub resized : {m : ℕ} → n ≡ m → Row x m f
   resized e = record { is = r .is ∙ ap (λ (k : ℕ). list k f) e }
 
--- own masks as ends: 2^i stays where it is
-pub own-row : (x : List ℕ) {m w : ℕ} → m ≡ w → x ≡ powers m → w ≤ 10 → Row x w (λ i. 2 ^ i)
-own-row x {m} {w} l e h = record { is = e ∙ ap powers l ∙ powers-own w (omega arith) }
-
 -- a good file's circuit as one side
 module _ (f : List ℕ) (bytes : Bytes f) (passes : outcome (fileChecks 0 f) ≡ passed) (w : ℕ) (wf : w ≡ wiresOf f) where
   pub few-wires : w ≤ 10
@@ -149,8 +139,11 @@ module _ (f : List ℕ) (bytes : Bytes f) (passes : outcome (fileChecks 0 f) ≡
   pub file-summed : Summed w (circuit (gatesOf f)) (coefficient w (gatesOf f))
   file-summed = circuit-summed w (gatesOf f) (subst (λ (n : ℕ). AllSound n (gatesOf f)) (sym wf) (file-sound f bytes (good-file 0 f passes)))
 
-  pub file-row : (row : List ℕ) → row ≡ list (2 ^ wiresOf f) (coefficient (wiresOf f) (gatesOf f)) → Row row (2 ^ w) (coefficient w (gatesOf f))
-  file-row row e = record { is = e ∙ ap (λ (n : ℕ). list (2 ^ n) (coefficient n (gatesOf f))) (sym wf) }
-
   pub file-ends : (ends : List ℕ) → ends ≡ list (wiresOf f) (λ i. endFrom (gatesOf f) (2 ^ i)) → Row ends w (λ i. endFrom (gatesOf f) (2 ^ i))
   file-ends ends e = record { is = e ∙ ap (λ (n : ℕ). list n (λ i. endFrom (gatesOf f) (2 ^ i))) (sym wf) }
+
+-- the first masks as ends: 2^i stays where it is
+pub own-row : (x masks : List ℕ) (m : ℕ) {w : ℕ} → m ≡ w → masks ≡ firstMasks → x ≡ list m (column masks m) → w ≤ 10 → Row x w (λ i. 2 ^ i)
+own-row x masks m {w} l o e h = record {
+  is = e ∙ ap₂ (λ (n : ℕ) (ms : List ℕ). list n (column ms n)) l o ∙ list-ext w (column firstMasks w) (λ i. 2 ^ i) (λ i k. own-column w i h k);
+}

@@ -65,6 +65,13 @@ pub entry-gathered : (up : Bool) (n : ℕ) (v : List ℕ) (s : ℕ) → s < 2 ^ 
 unfolding gathered
 entry-gathered up n v s h = getD-list (2 ^ n) (λ s. sumAround up n (entry v) s % 65536) s 0 h
 
+-- only the first 2^n entries count
+pub gathered-front : (up : Bool) (n : ℕ) (v : List ℕ) → gathered up n (take (2 ^ n) v) ≡ gathered up n v
+unfolding gathered
+gathered-front up n v =
+    list-ext (2 ^ n) (λ s. sumAround up n (entry (take (2 ^ n) v)) s % 65536) (λ s. sumAround up n (entry v) s % 65536)
+    (λ s h. ap (_% 65536) (around-ext up n (entry (take (2 ^ n) v)) (entry v) s (λ m l. getD-take (2 ^ n) v m 0 l)))
+
 module _ (up : Bool) (n : ℕ) (v : List ℕ) where
   -- both halves gathered
   unfoldable pub halves : List ℕ

@@ -5,10 +5,10 @@ pub mod Lowest
 pub mod Scanning
 pub mod Sides
 mod Weighing
-mod Tallies
 mod Ends
 mod Adding
 mod Gathering
+mod Eights
 pub mod Summaries
 mod Settling
 mod Deciding

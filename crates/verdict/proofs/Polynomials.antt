@@ -24,7 +24,7 @@ use Rattle.verdict.specs.Working.{weightOf}
 use Rattle.verdict.proofs.Parities.{parity}
 
 -- only the empty set has no wire
-ones-some : (n : ℕ) → 0 < n → 0 < ones n
+pub ones-some : (n : ℕ) → 0 < n → 0 < ones n
 ones-some = bin-ind (λ n. 0 < n → 0 < ones n) (λ h. absurd (omega arith)) step
   where
     step : (n : ℕ) → (0 < n / 2 → 0 < ones (n / 2)) → 0 < n → 0 < ones n

@@ -1,30 +1,35 @@
 -- What the working computes on the way to a summary and a verdict; the laws show that these are the paper's.
-use Prim.Native.Nat.{ℕ, zero, suc, _+_, _-_, _*_, _%_, _^_, _<_, _≤_}
+use Prim.Native.Nat.{ℕ, zero, suc, _+_, _*_, _%_, _^_, _<_, _≤_}
 use mathlib.Core.Path.{_≡_}
 use mathlib.Core.Logic.{_⊎_}
 use mathlib.Core.Bool.{Bool, true, false, cond}
-use mathlib.Core.List.{List, [], _∷_, _++_}
+use mathlib.Core.List.{List, _++_}
 use lib.Dec.{ltb}
 use lib.Bits.{bitXor}
 use lib.Count.{ones}
 use lib.ListN.{length, getD}
-use Rattle.numbers.specs.Bits.{bit, subset}
+use Rattle.numbers.specs.Bits.{bit, equal, subset}
 use Rattle.numbers.specs.Sums.{sum, sumOf, list}
-use Rattle.table.specs.Table.{valueAt}
-use Rattle.circuit.specs.declared.Gate.{Gate}
-use Rattle.running.specs.Masks.{masksAfter, met, addMet}
+use Rattle.numbers.specs.Turn.{_≈_}
+use Rattle.circuit.specs.File.{wiresOf, gatesOf}
+use Rattle.running.specs.Masks.{ownMasks, sumMet}
 use Rattle.verdict.specs.declared.Verdict.{Verdict}
 use Rattle.verdict.specs.declared.Verdict.the-variants.{Same, Different}
-use Rattle.verdict.specs.Coefficients.{difference, differences}
+use Rattle.verdict.specs.Coefficients.{differences}
 use Rattle.verdict.specs.Verdicts.{Side, verdict}
 
 abbrev pub entry : List ℕ → ℕ → ℕ
 entry v i = getD v i 0
 
--- the angles of a list of gates added at the masks that they meet
-unfoldable pub tallied : List Gate → List ℕ → List ℕ → List ℕ
-tallied [] ms v = v
-tallied (g ∷ gs) ms v = tallied gs (masksAfter g ms) (addMet (met g ms) v)
+-- the angles of a file's phase gates that meet mask m
+abbrev pub angleAt : List ℕ → ℕ → ℕ
+angleAt f m = sumMet (λ k a. equal m k * a) (gatesOf f) (ownMasks (wiresOf f))
+
+-- a file's angles added, wrapping, each at its mask
+pub record SumsUp (f before after : List ℕ) : Type 0 where
+  pub long : length after ≡ length before
+  pub each : (m : ℕ) → entry after m ≈ entry before m + angleAt f m
+  pub small : ((m : ℕ) → entry before m < 65536) → (m : ℕ) → entry after m < 65536
 
 -- whether the entry at m counts at s: the sets that contain s, or those that lie in s
 abbrev pub counts : Bool → ℕ → ℕ → ℕ
@@ -49,6 +54,16 @@ pub record Added (to from count : ℕ) (before after : List ℕ) : Type 0 where
 abbrev pub weightOf : ℕ → ℕ
 weightOf zero = 0
 weightOf (suc k) = 65534 ^ k
+
+-- the weight of set s, wrapped
+abbrev pub weightAt : ℕ → ℕ
+weightAt s = weightOf (ones s) % 65536
+
+-- one wire more: behind the weights of the sets without it, those of the sets with it
+pub record Doubled (half : ℕ) (before after : List ℕ) : Type 0 where
+  pub lower : (i : ℕ) → i < half → entry after i ≡ entry before i
+  pub alone : entry after half ≡ 1
+  pub with : (i : ℕ) → 0 < i → i < half → entry after (half + i) ≡ entry before i * 65534 % 65536
 
 abbrev pub weighed : List ℕ → ℕ → ℕ
 weighed v s = weightOf (ones s) * entry v s % 65536
@@ -77,16 +92,11 @@ pub record Place (A : ℕ → Type 0) (n : ℕ) (B : ℕ → Type 0) (w state : 
   pub high : state ≤ 2 ^ wire
   pub one : (state ≡ place) ⊎ (state ≡ 2 ^ wire)
 
--- two summaries judged by their numbers alone: the lowest place where coefficients differ, or single-wire ends, wire i's standing at 2^i
-pub record Settled (first second firsts seconds : List ℕ) (answer : Verdict) (after : List ℕ) : Type 0 where
+-- a row of differences judged by its numbers alone: the lowest place that is not 0, or where single-wire ends differ, wire i's standing at 2^i
+pub record Settled (row firsts seconds : List ℕ) (answer : Verdict) : Type 0 where
   pub state : ℕ
-  pub place : Place (λ s. entry first s ≡ entry second s) (length first) (λ i. entry firsts i ≡ entry seconds i) (length firsts) state
-  pub answers : answer ≡ cond (ltb state (length first)) (Different state (endOf firsts state) (endOf seconds state) (difference (entry first state) (entry second state))) Same
-  pub leaves : after ≡ list (length first) (λ s. difference (entry first s) (entry second s))
-
--- nothing below h, then half a turn where f is 1
-unfoldable pub halfTurn : List ℕ → ℕ → ℕ → ℕ
-halfTurn t h s = cond (ltb s h) 0 (32768 * valueAt t (s - h))
+  pub place : Place (λ s. entry row s ≡ 0) (length row) (λ i. entry firsts i ≡ entry seconds i) (length firsts) state
+  pub answers : answer ≡ cond (ltb state (length row)) (Different state (endOf firsts state) (endOf seconds state) (entry row state)) Same
 
 -- two sides on w wires with coefficients c and d: the verdict on them, and c minus d in the row
 pub record Decided (w : ℕ) (a b : Side) (c d : ℕ → ℕ) (answer : Verdict) (after : List ℕ) : Type 0 where

@@ -7,7 +7,7 @@ use table::Checked;
 ghost use mathlib.Core.Path.{_≡_};
 ghost use Rattle.refusal.specs.Checks.{outcome, passed};
 ghost use Rattle.table.specs.Table.{tableChecks};
-ghost use Rattle.circuit.specs.File.{wiresOf, countOf, fileChecks};
+ghost use Rattle.circuit.specs.File.{wiresOf, fileChecks};
 ghost use Rattle.verdict.specs.Judging.{Compares, Judges};
 
 // Whether two circuits do the same, or the lowest starting state at which they part, and how. The
@@ -17,19 +17,19 @@ pub fn compare(first: &[u8], second: &[u8], work: &mut [u16]) -> Compared
 {
     match circuit::read(first, 0) {
         Reading::Refused(refusal) => Compared::Refused(refusal),
-        Reading::Circuit { wires, gates } => compare_with(first, wires, gates, second, work),
+        Reading::Circuit { wires, gates: _ } => compare_with(first, wires, second, work),
     }
 }
 
-fn compare_with(first: &[u8], wires: u8, gates: usize, second: &[u8], work: &mut [u16]) -> Compared
-    requires { ⌜ (outcome (fileChecks 0 (now first)) ≡ passed) × (wires ≡ wiresOf (now first)) × (gates ≡ countOf (now first)) ⌝ }
+fn compare_with(first: &[u8], wires: u8, second: &[u8], work: &mut [u16]) -> Compared
+    requires { ⌜ (outcome (fileChecks 0 (now first)) ≡ passed) × (wires ≡ wiresOf (now first)) ⌝ }
     ensures { λ r. ⌜ Compares (now (first .entry)) (now (second .entry)) (now (work .entry)) r (now (work .exit)) ⌝ }
 {
     match circuit::read(second, 1) {
         Reading::Refused(refusal) => Compared::Refused(refusal),
         Reading::Circuit {
             wires: width,
-            gates: others,
+            gates: _,
         } => {
             if wires != width {
                 return Compared::Refused(refusal::by(refusal::UNLIKE));
@@ -39,14 +39,7 @@ fn compare_with(first: &[u8], wires: u8, gates: usize, second: &[u8], work: &mut
             if room < size {
                 return Compared::Refused(refusal::by(refusal::ROOM));
             }
-            let verdict = decide(
-                first,
-                gates,
-                second,
-                others,
-                wires as usize,
-                &mut work[..size],
-            );
+            let verdict = decide(first, second, wires as usize, &mut work[..size]);
             Compared::Found(verdict)
         }
     }
@@ -61,20 +54,13 @@ pub fn judge(n: u8, table: &[u8], file: &[u8], work: &mut [u16]) -> Compared
     }
     match circuit::read(file, 0) {
         Reading::Refused(refusal) => Compared::Refused(refusal),
-        Reading::Circuit { wires, gates } => judge_circuit(n, table, file, wires, gates, work),
+        Reading::Circuit { wires, gates: _ } => judge_circuit(n, table, file, wires, work),
     }
 }
 
-fn judge_circuit(
-    n: u8,
-    table: &[u8],
-    file: &[u8],
-    wires: u8,
-    gates: usize,
-    work: &mut [u16],
-) -> Compared
+fn judge_circuit(n: u8, table: &[u8], file: &[u8], wires: u8, work: &mut [u16]) -> Compared
     requires { ⌜ outcome (tableChecks n (now table)) ≡ passed ⌝ }
-    requires { ⌜ (outcome (fileChecks 0 (now file)) ≡ passed) × (wires ≡ wiresOf (now file)) × (gates ≡ countOf (now file)) ⌝ }
+    requires { ⌜ (outcome (fileChecks 0 (now file)) ≡ passed) × (wires ≡ wiresOf (now file)) ⌝ }
     ensures { λ r. ⌜ Judges n (now (table .entry)) (now (file .entry)) (now (work .entry)) r (now (work .exit)) ⌝ }
 {
     if wires != n + 1 {
@@ -85,13 +71,6 @@ fn judge_circuit(
     if room < size {
         return Compared::Refused(refusal::by(refusal::ROOM));
     }
-    let verdict = decide_table(
-        table,
-        file,
-        gates,
-        n as usize,
-        wires as usize,
-        &mut work[..size],
-    );
+    let verdict = decide_table(table, file, n as usize, wires as usize, &mut work[..size]);
     Compared::Found(verdict)
 }

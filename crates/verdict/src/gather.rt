@@ -1,5 +1,7 @@
 // Sums by halves: at each set, the entries of the sets that contain it, or of those that lie in it.
 ghost use mathlib.Core.Path.{_≡_};
+ghost use mathlib.Core.Bool.{true};
+ghost use mathlib.Core.List.{[], _∷_};
 ghost use mathlib.Core.Logic.{_⊎_};
 ghost use Prim.Native.Nat.{ℕ, _^_, _+_, _≤_};
 ghost use lib.ListN.{length};
@@ -9,12 +11,81 @@ ghost use Rattle.verdict.specs.Working.{gathered, mixed, Added};
 pub fn gather(v: &mut [u16], up: bool)
     ensures { λ _. ⌜ ((n : ℕ) → length (now (v .entry)) ≡ 2 ^ n → now (v .exit) ≡ gathered up n (now (v .entry))) ⌝ }
 {
+    if v.len() == 8 {
+        eight(v, up);
+        return;
+    }
+    if v.len() == 16 {
+        sixteen(v, up);
+        return;
+    }
     let half = v.len() / 2;
     if 0 < half {
         gather(&mut v[..half], up);
         gather(&mut v[half..], up);
         mix(v, half, up);
     }
+}
+
+// The same without the recursion: the compiler makes straight code of it.
+fn sixteen(v: &mut [u16], up: bool)
+    requires { ⌜ length (now v) ≡ 16 ⌝ }
+    ensures { λ _. ⌜ ((n : ℕ) → length (now (v .entry)) ≡ 2 ^ n → now (v .exit) ≡ gathered up n (now (v .entry))) ⌝ }
+{
+    eight(&mut v[..8], up);
+    eight(&mut v[8..], up);
+    mix(v, 8, up)
+}
+
+// The sets that lie in one are those that contain it, counted from the other end.
+fn eight(v: &mut [u16], up: bool)
+    requires { ⌜ length (now v) ≡ 8 ⌝ }
+    ensures { λ _. ⌜ ((n : ℕ) → length (now (v .entry)) ≡ 2 ^ n → now (v .exit) ≡ gathered up n (now (v .entry))) ⌝ }
+{
+    if up {
+        let r = sums(v[0], v[1], v[2], v[3], v[4], v[5], v[6], v[7]);
+        put(v, r)
+    } else {
+        let r = sums(v[7], v[6], v[5], v[4], v[3], v[2], v[1], v[0]);
+        put(v, [r[7], r[6], r[5], r[4], r[3], r[2], r[1], r[0]])
+    }
+}
+
+fn put(v: &mut [u16], row: [u16; 8])
+    requires { ⌜ length (now v) ≡ 8 ⌝ }
+    ensures { λ _. ⌜ now (v .exit) ≡ row ⌝ }
+{
+    v[0] = row[0];
+    v[1] = row[1];
+    v[2] = row[2];
+    v[3] = row[3];
+    v[4] = row[4];
+    v[5] = row[5];
+    v[6] = row[6];
+    v[7] = row[7];
+}
+
+// Eight entries gathered upwards.
+fn sums(a: u16, b: u16, c: u16, d: u16, e: u16, f: u16, g: u16, h: u16) -> [u16; 8]
+    ensures { λ r. ⌜ r ≡ gathered true 3 (a ∷ b ∷ c ∷ d ∷ e ∷ f ∷ g ∷ h ∷ []) ⌝ }
+{
+    let bd = (b as u32) + (d as u32);
+    let cd = (c as u32) + (d as u32);
+    let dh = (d as u32) + (h as u32);
+    let fh = (f as u32) + (h as u32);
+    let gh = (g as u32) + (h as u32);
+    let upper = (e as u32) + (f as u32) + gh;
+    let whole = (a as u32) + (b as u32) + cd + upper;
+    [
+        (whole % 65536) as u16,
+        ((bd + fh) % 65536) as u16,
+        ((cd + gh) % 65536) as u16,
+        (dh % 65536) as u16,
+        (upper % 65536) as u16,
+        (fh % 65536) as u16,
+        (gh % 65536) as u16,
+        h,
+    ]
 }
 
 fn mix(v: &mut [u16], half: usize, up: bool)

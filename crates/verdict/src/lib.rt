@@ -7,6 +7,7 @@ mod gather;
 mod ideal;
 mod settle;
 mod summary;
+mod weigh;
 
 pub use comparer::compare;
 pub use comparer::judge;

@@ -1,33 +1,32 @@
 // Two summaries judged: the lowest place where they differ, and how.
 use crate::Verdict;
 ghost use mathlib.Core.Path.{_≡_};
-ghost use Prim.Native.Nat.{_*_, _^_, _≤_, _<_};
+ghost use Prim.Native.Nat.{ℕ, _*_, _^_, _≤_, _<_};
 ghost use lib.ListN.{length};
 ghost use Rattle.numbers.specs.Sums.{list};
 ghost use Rattle.verdict.specs.Coefficients.{difference};
 ghost use Rattle.verdict.specs.Working.{entry, endOf, Lowest, Place, Settled};
 
-// The verdict on two rows of coefficients and the ends of the single-wire starts; the first row becomes first minus second.
-pub fn settle(first: &mut [u16], second: &[u16], firsts: &[u16], seconds: &[u16]) -> Verdict
-    requires { ⌜ (length (now second) ≡ length (now first)) × (length (now first) ≡ 2 ^ length (now firsts)) ⌝ }
+// The verdict on a row of differences and the ends of the single-wire starts.
+pub fn settle(differences: &[u16], firsts: &[u16], seconds: &[u16]) -> Verdict
+    requires { ⌜ length (now differences) ≡ 2 ^ length (now firsts) ⌝ }
     requires { ⌜ (length (now seconds) ≡ length (now firsts)) × (length (now firsts) ≤ 10) ⌝ }
-    ensures { λ r. ⌜ Settled (now (first .entry)) (now (second .entry)) (now (firsts .entry)) (now (seconds .entry)) r (now (first .exit)) ⌝ }
+    ensures { λ r. ⌜ Settled (now (differences .entry)) (now (firsts .entry)) (now (seconds .entry)) r ⌝ }
 {
-    subtract(first, second);
-    let state = lowest_place(first, firsts, seconds);
-    if state < first.len() {
+    let state = lowest_place(differences, firsts, seconds);
+    if state < differences.len() {
         return Verdict::Different {
             state: state as u16,
             first: end_at(firsts, state),
             second: end_at(seconds, state),
-            phase: first[state],
+            phase: differences[state],
         };
     }
     Verdict::Same
 }
 
 // First minus second at each place.
-fn subtract(first: &mut [u16], second: &[u16])
+pub fn subtract(first: &mut [u16], second: &[u16])
     requires { ⌜ length (now second) ≡ length (now first) ⌝ }
     ensures { λ _. ⌜ now (first .exit) ≡ list (length (now (first .entry))) (λ s. difference (entry (now (first .entry)) s) (entry (now (second .entry)) s)) ⌝ }
 {
@@ -56,6 +55,9 @@ fn first_nonzero(v: &[u16]) -> usize
     ensures { λ r. ⌜ Lowest (λ s. entry (now (v .entry)) s ≡ 0) (length (now (v .entry))) r ⌝ }
 {
     let size = v.len();
+    if all_bits(v) == 0 {
+        return size;
+    }
     let mut s: usize = 0;
     while s < size {
         if v[s] != 0 {
@@ -64,6 +66,19 @@ fn first_nonzero(v: &[u16]) -> usize
         s += 1;
     }
     s
+}
+
+// 0 only where each entry is 0: in one pass without exit, since most rows have no difference.
+fn all_bits(v: &[u16]) -> u16
+    ensures { λ r. ⌜ (r ≡ 0 → (k : ℕ) → k < length (now (v .entry)) → entry (now (v .entry)) k ≡ 0) ⌝ }
+{
+    let mut bits: u16 = 0;
+    let mut s: usize = 0;
+    while s < v.len() {
+        bits = bits | v[s];
+        s += 1;
+    }
+    bits
 }
 
 fn first_unlike(firsts: &[u16], seconds: &[u16]) -> usize

@@ -1,89 +1,39 @@
-// One side summed up: its coefficients, and the end of each single-wire start.
-use crate::gather::gather;
-use circuit::Decoded;
-use running::add_gate;
+// One side summed up: its angles added at their masks, the end of each single-wire start, and sums weighed.
 ghost use mathlib.Core.Path.{_≡_};
-ghost use Prim.Native.Nat.{_*_, _%_, _^_, _≤_, _<_};
-ghost use lib.Count.{ones};
-ghost use lib.ListN.{length, set};
+ghost use Prim.Native.Nat.{_^_, _≤_, _<_};
+ghost use lib.ListN.{length};
 ghost use Rattle.numbers.specs.Sums.{list};
 ghost use Rattle.refusal.specs.Checks.{outcome, passed};
-ghost use Rattle.circuit.specs.File.{wiresOf, countOf, gatesOf, fileChecks};
-ghost use Rattle.running.specs.Masks.{masksFrom};
+ghost use Rattle.circuit.specs.File.{wiresOf, gatesOf, fileChecks};
 ghost use Rattle.running.specs.Run.{endFrom};
-ghost use Rattle.verdict.specs.Coefficients.{coefficient};
-ghost use Rattle.verdict.specs.Working.{entry, tallied, weightOf, weighed, column};
+ghost use Rattle.verdict.specs.Coefficients.{difference};
+ghost use Rattle.verdict.specs.Working.{entry, column, SumsUp};
 
-// (-2)^(k-1), wrapped, for k from 0 to 10; nothing for 0.
-const WEIGHTS: [u16; 11] = [0, 1, 65534, 4, 65528, 16, 65504, 64, 65408, 256, 65024];
-
-// The coefficients of a good file's circuit, and where each wire's own start ends.
-pub fn summarise(file: &[u8], gates: usize, coefficients: &mut [u16], ends: &mut [u16])
-    requires { ⌜ (outcome (fileChecks 0 (now file)) ≡ passed) × (gates ≡ countOf (now file)) ⌝ }
-    requires { ⌜ length (now coefficients) ≡ 2 ^ wiresOf (now file) ⌝ }
-    requires { ⌜ length (now ends) ≡ wiresOf (now file) ⌝ }
-    ensures { λ _. ⌜ now (coefficients .exit) ≡ list (2 ^ wiresOf (now (file .entry))) (coefficient (wiresOf (now (file .entry))) (gatesOf (now (file .entry)))) ⌝ }
+// The angles of a good file's circuit added to the row, and where each wire's own start ends.
+pub fn sum_up(file: &[u8], row: &mut [u16; 1024], ends: &mut [u16])
+    requires { ⌜ outcome (fileChecks 0 (now file)) ≡ passed ⌝ }
+    requires { ⌜ (length (now row) ≡ 1024) × (length (now ends) ≡ wiresOf (now file)) ⌝ }
+    ensures { λ _. ⌜ SumsUp (now (file .entry)) (now (row .entry)) (now (row .exit)) ⌝ }
     ensures { λ _. ⌜ now (ends .exit) ≡ list (wiresOf (now (file .entry))) (λ i. endFrom (gatesOf (now (file .entry))) (2 ^ i)) ⌝ }
 {
-    let mut masks = [0u16; 10];
-    running::own_masks(&mut masks);
-    clear(coefficients);
-    tally(file, gates, &mut masks, coefficients);
-    gather(coefficients, true);
-    weigh(coefficients);
+    let mut masks = running::first_masks();
+    running::add_gates(file, &mut masks, row);
     put_ends(&masks, ends);
 }
 
-fn clear(v: &mut [u16])
-    ensures { λ _. ⌜ now (v .exit) ≡ list (length (now (v .entry))) (λ s. 0) ⌝ }
+// Each entry's opposite.
+pub fn negate(v: &mut [u16])
+    ensures { λ _. ⌜ now (v .exit) ≡ list (length (now (v .entry))) (λ s. difference 0 (entry (now (v .entry)) s)) ⌝ }
 {
     let mut s: usize = 0;
     while s < v.len() {
-        v[s] = 0;
+        let angle = v[s];
+        v[s] = std::num::wrapping_sub_u16(0, angle);
         s += 1;
     }
 }
 
-// Each gate once: the masks go along, and each angle is added at its mask.
-fn tally(file: &[u8], gates: usize, masks: &mut [u16], v: &mut [u16])
-    requires { ⌜ (outcome (fileChecks 0 (now file)) ≡ passed) × (gates ≡ countOf (now file)) ⌝ }
-    ensures { λ _. ⌜ now (masks .exit) ≡ masksFrom (gatesOf (now (file .entry))) (now (masks .entry)) ⌝ }
-    ensures { λ _. ⌜ now (v .exit) ≡ tallied (gatesOf (now (file .entry))) (now (masks .entry)) (now (v .entry)) ⌝ }
-{
-    let mut i: usize = 0;
-    while i < gates {
-        let Decoded::Good(placed) = circuit::gate_at(file, i) else {
-            return;
-        };
-        let gate = placed.gate;
-        add_gate(gate, masks, v);
-        i += 1;
-    }
-}
-
-// Each sum by the weight of its set.
-fn weigh(v: &mut [u16])
-    requires { ⌜ length (now v) ≤ 1024 ⌝ }
-    ensures { λ _. ⌜ now (v .exit) ≡ list (length (now (v .entry))) (weighed (now (v .entry))) ⌝ }
-{
-    let mut s: usize = 0;
-    while s < v.len() {
-        let sum = v[s];
-        v[s] = weigh_one(sum, s);
-        s += 1;
-    }
-}
-
-fn weigh_one(sum: u16, set: usize) -> u16
-    requires { ⌜ set < 1024 ⌝ }
-    ensures { λ r. ⌜ r ≡ weightOf (ones set) * sum % 65536 ⌝ }
-{
-    let size = usize::count_ones(set) as usize;
-    let weight = WEIGHTS[size];
-    ((weight as u32) * (sum as u32) % 65536) as u16
-}
-
-fn put_ends(masks: &[u16], ends: &mut [u16])
+pub fn put_ends(masks: &[u16], ends: &mut [u16])
     requires { ⌜ (length (now ends) ≤ 10) × (length (now ends) ≤ length (now masks)) ⌝ }
     ensures { λ _. ⌜ now (ends .exit) ≡ list (length (now (ends .entry))) (column (now (masks .entry)) (length (now (ends .entry)))) ⌝ }
 {
@@ -101,9 +51,11 @@ fn end_of(masks: &[u16], wires: usize, i: usize) -> u16
     ensures { λ r. ⌜ r ≡ column (now (masks .entry)) wires i ⌝ }
 {
     let mut state: u16 = 0;
+    let mut place: u16 = 1;
     let mut j: usize = 0;
     while j < wires {
-        state += ((masks[j] >> i) % 2) << j;
+        state += ((masks[j] >> i) % 2) * place;
+        place += place;
         j += 1;
     }
     state

@@ -22,7 +22,7 @@ compare-with-requires c κs =
     let got = after-read in
     let v = after-wires .wires .given in
     let r = read-answers 0 (a .first .now) (got .read .result) (got .read .ensures) (v .0 .0) (v .0 .1 .0) (v .1) in
-    (r .passes, r .wires, r .count)
+    (r .passes, r .wires)
 
 returns : tie.Need-returns
 returns c =

@@ -81,7 +81,7 @@ decide-requires c κs =
     let start = after-width .before .before .before .before .before .before in
     let a = start .args in
     let r = read (after-width) in
-    ((start .pre .0, start .pre .2), ((file-passes 0 (a .second .now) (r .file), r .count), (start .pre .1, start .pre .1 ∙ like (else1), length-take-le (after-power .power .result) (a .work .now) (omega arith) ∙ size (after-power) ∙ ap (2 ^_) (sym (start .pre .1)))))
+    ((start .pre .0, file-passes 0 (a .second .now) (r .file)), (start .pre .1, start .pre .1 ∙ like (else1), length-take-le (after-power .power .result) (a .work .now) (omega arith) ∙ size (after-power) ∙ ap (2 ^_) (sym (start .pre .1))))
 
 returns-3 : tie.Need-returns-3
 returns-3 c =
@@ -106,7 +106,7 @@ returns-4 c =
     let a = start .args in
     let r = read (after-width) in
     let d = after-decide .decide in
-    compare-found (a .first .now) (a .second .now) (a .work .now) (start .pre .0) (r .passes) (like (else1)) (a .wires) (after-power .power .result) (start .pre .1) (size (after-power)) (omega arith) (d .result) (d .last .1 .1 .1 .1 .1 .0) (d .ensures)
+    compare-found (a .first .now) (a .second .now) (a .work .now) (start .pre .0) (r .passes) (like (else1)) (a .wires) (after-power .power .result) (start .pre .1) (size (after-power)) (omega arith) (d .result) (d .last .1 .1 .1 .0) (d .ensures)
 
 pub compare-with-spec : {M : Type 1} → statement M
 compare-with-spec =

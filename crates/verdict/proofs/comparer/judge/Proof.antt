@@ -54,7 +54,7 @@ judge-circuit-requires c κs =
     let got = after-read in
     let v = after-wires .wires .given in
     let r = read-answers 0 (a .file .now) (got .read .result) (got .read .ensures) (v .0 .0) (v .0 .1 .0) (v .1) in
-    (good (after-enum-told), (r .passes, r .wires, r .count))
+    (good (after-enum-told), (r .passes, r .wires))
 
 returns-2 : tie.Need-returns-2
 returns-2 c =

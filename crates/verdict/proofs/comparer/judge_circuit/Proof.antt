@@ -1,3 +1,5 @@
+use Rattle.refusal.proofs.Passed.{passed-fail}
+use Rattle.table.specs.Table.{tableChecks}
 use Prim.Native.Nat.{_+_, _^_}
 use mathlib.Core.Path.{_≡_, sym, ap, _∙_}
 use lib.Seq.{length-take-le}
@@ -61,7 +63,7 @@ decide-table-requires c κs =
     let else1 = after-power .before in
     let start = else1 .before .before .before .before in
     let a = start .args in
-    ((start .pre .1 .0, start .pre .1 .2), (start .pre .1 .1, else1 .if1 .left, length-take-le (after-power .power .result) (a .work .now) (omega arith) ∙ size (after-power) ∙ ap (2 ^_) (sym (start .pre .1 .1))))
+    (start .pre .1 .0, (start .pre .1 .1, else1 .if1 .left, passed-fail (tableChecks (a .n) (a .table .now)) (start .pre .0) .1 .0, length-take-le (after-power .power .result) (a .work .now) (omega arith) ∙ size (after-power) ∙ ap (2 ^_) (sym (start .pre .1 .1))))
 
 same-length : tie.Need-same-length
 same-length c = search needs
@@ -74,7 +76,7 @@ returns-3 c =
     let start = else1 .before .before .before .before in
     let a = start .args in
     let d = after-decide-table .decide-table in
-    judge-found (a .n) (a .table .now) (a .file .now) (a .work .now) (start .pre .0) (start .pre .1 .0) (like (else1)) (a .wires) (after-power .power .result) (start .pre .1 .1) (size (after-power)) (omega arith) (d .result) (d .last .1 .1 .1 .1 .1 .0) (d .ensures)
+    judge-found (a .n) (a .table .now) (a .file .now) (a .work .now) (start .pre .0) (start .pre .1 .0) (like (else1)) (a .wires) (after-power .power .result) (start .pre .1 .1) (size (after-power)) (omega arith) (d .result) (d .last .1 .1 .1 .1 .0) (d .ensures)
 
 pub judge-circuit-spec : {M : Type 1} → statement M
 judge-circuit-spec =

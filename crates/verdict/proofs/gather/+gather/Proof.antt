@@ -10,7 +10,9 @@ use borrow.Fn.PlainCycle.{Measures, is, falls, and}
 use Rattle.verdict.proofs.gather.gather.Reads as gather
 use Rattle.verdict.proofs.gather.gather.Kinds as gather-kinds
 use Rattle.verdict.proofs.gather.+gather.Lts-gather as gather-lts
+use Rattle.verdict.proofs.gather.eight.Reads as eight-reads
 use Rattle.verdict.proofs.gather.mix.Reads as mix-reads
+use Rattle.verdict.proofs.gather.sixteen.Reads as sixteen-reads
 use Rattle.verdict.proofs.gather.+gather.{statement}
 use Rattle.verdict.proofs.gather.+gather.Tie.{close}
 
@@ -23,7 +25,83 @@ gather-at t = and 1 gather-kinds.ps (is 1 gather-kinds.ps μ-gather t) gather.Pr
 abbrev gather-below : ℕ → In 1 gather-kinds.ps
 gather-below t = and 1 gather-kinds.ps (falls 1 gather-kinds.ps _<_ μ-gather t) gather.Pre
 
+gather-eight-requires : (t : ℕ) → gather-lts.Need-eight-requires (
+  eight-reads.Asked,
+  eight-reads.Learnt,
+  sixteen-reads.Asked,
+  sixteen-reads.Learnt,
+  gather-below t,
+  gather.Post,
+  mix-reads.Asked,
+  mix-reads.Learnt,
+) (gather-at t) gather.Post
+gather-eight-requires t c κs = c .before .if1 .taken
+
+gather-same-length : (t : ℕ) → gather-lts.Need-same-length (
+  eight-reads.Asked,
+  eight-reads.Learnt,
+  sixteen-reads.Asked,
+  sixteen-reads.Learnt,
+  gather-below t,
+  gather.Post,
+  mix-reads.Asked,
+  mix-reads.Learnt,
+) (gather-at t) gather.Post
+gather-same-length t c = c .before .before .eight .kept .0
+
+gather-returns : (t : ℕ) → gather-lts.Need-returns (
+  eight-reads.Asked,
+  eight-reads.Learnt,
+  sixteen-reads.Asked,
+  sixteen-reads.Learnt,
+  gather-below t,
+  gather.Post,
+  mix-reads.Asked,
+  mix-reads.Learnt,
+) (gather-at t) gather.Post
+gather-returns t c = c .before .before .eight .ensures
+
+gather-sixteen-requires : (t : ℕ) → gather-lts.Need-sixteen-requires (
+  eight-reads.Asked,
+  eight-reads.Learnt,
+  sixteen-reads.Asked,
+  sixteen-reads.Learnt,
+  gather-below t,
+  gather.Post,
+  mix-reads.Asked,
+  mix-reads.Learnt,
+) (gather-at t) gather.Post
+gather-sixteen-requires t c κs = c .before .if2 .taken
+
+gather-same-length-2 : (t : ℕ) → gather-lts.Need-same-length-2 (
+  eight-reads.Asked,
+  eight-reads.Learnt,
+  sixteen-reads.Asked,
+  sixteen-reads.Learnt,
+  gather-below t,
+  gather.Post,
+  mix-reads.Asked,
+  mix-reads.Learnt,
+) (gather-at t) gather.Post
+gather-same-length-2 t c = c .before .before .sixteen .kept .0
+
+gather-returns-2 : (t : ℕ) → gather-lts.Need-returns-2 (
+  eight-reads.Asked,
+  eight-reads.Learnt,
+  sixteen-reads.Asked,
+  sixteen-reads.Learnt,
+  gather-below t,
+  gather.Post,
+  mix-reads.Asked,
+  mix-reads.Learnt,
+) (gather-at t) gather.Post
+gather-returns-2 t c = c .before .before .sixteen .ensures
+
 gather-slice-relend-prefix-gather : (t : ℕ) → gather-lts.Need-slice-relend-prefix-gather (
+  eight-reads.Asked,
+  eight-reads.Learnt,
+  sixteen-reads.Asked,
+  sixteen-reads.Learnt,
   gather-below t,
   gather.Post,
   mix-reads.Asked,
@@ -32,22 +110,34 @@ gather-slice-relend-prefix-gather : (t : ℕ) → gather-lts.Need-slice-relend-p
 gather-slice-relend-prefix-gather t c = omega arith
 
 gather-slice-aggregate-gather : (t : ℕ) → gather-lts.Need-slice-aggregate-gather (
+  eight-reads.Asked,
+  eight-reads.Learnt,
+  sixteen-reads.Asked,
+  sixteen-reads.Learnt,
   gather-below t,
   gather.Post,
   mix-reads.Asked,
   mix-reads.Learnt,
 ) (gather-at t) gather.Post
-gather-slice-aggregate-gather t c = sym (length-take-le _ (c .before .before .before .args .v .now) (omega arith))
+gather-slice-aggregate-gather t c = sym (length-take-le _ (c .before .before .before .before .before .args .v .now) (omega arith))
 
 gather-gather-requires : (t : ℕ) → gather-lts.Need-gather-requires (
+  eight-reads.Asked,
+  eight-reads.Learnt,
+  sixteen-reads.Asked,
+  sixteen-reads.Learnt,
   gather-below t,
   gather.Post,
   mix-reads.Asked,
   mix-reads.Learnt,
 ) (gather-at t) gather.Post
-gather-gather-requires t c κs = (omega (arith, first-falls (c .before .before .before .args .v .now) (length (c .before .before .before .args .v .now) / 2) refl (omega arith)), tt)
+gather-gather-requires t c κs = (omega (arith, first-falls (c .before .before .before .before .before .args .v .now) (length (c .before .before .before .before .before .args .v .now) / 2) refl (omega arith)), tt)
 
 gather-mul-gather : (t : ℕ) → gather-lts.Need-mul-gather (
+  eight-reads.Asked,
+  eight-reads.Learnt,
+  sixteen-reads.Asked,
+  sixteen-reads.Learnt,
   gather-below t,
   gather.Post,
   mix-reads.Asked,
@@ -56,6 +146,10 @@ gather-mul-gather : (t : ℕ) → gather-lts.Need-mul-gather (
 gather-mul-gather t c = omega arith
 
 gather-sub-gather : (t : ℕ) → gather-lts.Need-sub-gather (
+  eight-reads.Asked,
+  eight-reads.Learnt,
+  sixteen-reads.Asked,
+  sixteen-reads.Learnt,
   gather-below t,
   gather.Post,
   mix-reads.Asked,
@@ -63,10 +157,14 @@ gather-sub-gather : (t : ℕ) → gather-lts.Need-sub-gather (
 ) (gather-at t) gather.Post
 gather-sub-gather t c =
     let after-gather = c .before .before in
-    let start = after-gather .before .before .before .before in
+    let start = after-gather .before .before .before .before .before .before in
     omega (arith, row-long (start .args .v .now) (length (start .args .v .now) / 2) refl (omega arith) (after-gather .gather .last .0) (after-gather .gather .kept .0))
 
 gather-part-gather-start : (t : ℕ) → gather-lts.Need-part-gather-start (
+  eight-reads.Asked,
+  eight-reads.Learnt,
+  sixteen-reads.Asked,
+  sixteen-reads.Learnt,
   gather-below t,
   gather.Post,
   mix-reads.Asked,
@@ -74,10 +172,14 @@ gather-part-gather-start : (t : ℕ) → gather-lts.Need-part-gather-start (
 ) (gather-at t) gather.Post
 gather-part-gather-start t c =
     let after-gather = c .before .before in
-    let start = after-gather .before .before .before .before in
+    let start = after-gather .before .before .before .before .before .before in
     omega (arith, row-long (start .args .v .now) (length (start .args .v .now) / 2) refl (omega arith) (after-gather .gather .last .0) (after-gather .gather .kept .0))
 
 gather-part-gather-end : (t : ℕ) → gather-lts.Need-part-gather-end (
+  eight-reads.Asked,
+  eight-reads.Learnt,
+  sixteen-reads.Asked,
+  sixteen-reads.Learnt,
   gather-below t,
   gather.Post,
   mix-reads.Asked,
@@ -86,6 +188,10 @@ gather-part-gather-end : (t : ℕ) → gather-lts.Need-part-gather-end (
 gather-part-gather-end t c = omega arith
 
 gather-gather-requires-2 : (t : ℕ) → gather-lts.Need-gather-requires-2 (
+  eight-reads.Asked,
+  eight-reads.Learnt,
+  sixteen-reads.Asked,
+  sixteen-reads.Learnt,
   gather-below t,
   gather.Post,
   mix-reads.Asked,
@@ -93,10 +199,14 @@ gather-gather-requires-2 : (t : ℕ) → gather-lts.Need-gather-requires-2 (
 ) (gather-at t) gather.Post
 gather-gather-requires-2 t c κs =
     let after-gather = c .before .before .before in
-    let start = after-gather .before .before .before .before in
+    let start = after-gather .before .before .before .before .before .before in
     (omega (arith, second-falls (start .args .v .now) (length (start .args .v .now) / 2) refl (omega arith) (after-gather .gather .last .0) (after-gather .gather .kept .0)), tt)
 
 gather-mix-requires : (t : ℕ) → gather-lts.Need-mix-requires (
+  eight-reads.Asked,
+  eight-reads.Learnt,
+  sixteen-reads.Asked,
+  sixteen-reads.Learnt,
   gather-below t,
   gather.Post,
   mix-reads.Asked,
@@ -105,52 +215,68 @@ gather-mix-requires : (t : ℕ) → gather-lts.Need-mix-requires (
 gather-mix-requires t c κs =
     let after-gather2 = c .before .before .before in
     let after-gather = after-gather2 .before .before .before .before in
-    let start = after-gather .before .before .before .before in
+    let start = after-gather .before .before .before .before .before .before in
     let f = after-gather .gather in
     let g = after-gather2 .gather2 in
     omega (arith, joined-long (start .args .up) (start .args .v .now) (length (start .args .v .now) / 2) refl (omega arith) (f .last .0) (f .kept .0) (g .last .0) (g .kept .0))
 
-gather-same-length : (t : ℕ) → gather-lts.Need-same-length (
+gather-same-length-3 : (t : ℕ) → gather-lts.Need-same-length-3 (
+  eight-reads.Asked,
+  eight-reads.Learnt,
+  sixteen-reads.Asked,
+  sixteen-reads.Learnt,
   gather-below t,
   gather.Post,
   mix-reads.Asked,
   mix-reads.Learnt,
 ) (gather-at t) gather.Post
-gather-same-length t c =
+gather-same-length-3 t c =
     let after-mix = c .before .before in
     let after-gather2 = after-mix .before .before .before .before in
     let after-gather = after-gather2 .before .before .before .before in
-    let start = after-gather .before .before .before .before in
+    let start = after-gather .before .before .before .before .before .before in
     let f = after-gather .gather in
     let g = after-gather2 .gather2 in
     after-mix .mix .kept .0 ∙ joined-long (start .args .up) (start .args .v .now) (length (start .args .v .now) / 2) refl (omega arith) (f .last .0) (f .kept .0) (g .last .0) (g .kept .0)
 
-gather-returns : (t : ℕ) → gather-lts.Need-returns (
+gather-returns-3 : (t : ℕ) → gather-lts.Need-returns-3 (
+  eight-reads.Asked,
+  eight-reads.Learnt,
+  sixteen-reads.Asked,
+  sixteen-reads.Learnt,
   gather-below t,
   gather.Post,
   mix-reads.Asked,
   mix-reads.Learnt,
 ) (gather-at t) gather.Post
-gather-returns t c =
+gather-returns-3 t c =
     let after-mix = c .before .before in
     let after-gather2 = after-mix .before .before .before .before in
     let after-gather = after-gather2 .before .before .before .before in
-    let start = after-gather .before .before .before .before in
+    let start = after-gather .before .before .before .before .before .before in
     let f = after-gather .gather in
     let g = after-gather2 .gather2 in
     let m = after-mix .mix in
     mix-gives (start .args .up) (start .args .v .now) (length (start .args .v .now) / 2) refl (omega arith) (f .last .0) (f .kept .0) (g .last .0) (g .kept .0) (f .ensures) (g .ensures) (m .last .0) (m .ensures)
 
-gather-returns-2 : (t : ℕ) → gather-lts.Need-returns-2 (
+gather-returns-4 : (t : ℕ) → gather-lts.Need-returns-4 (
+  eight-reads.Asked,
+  eight-reads.Learnt,
+  sixteen-reads.Asked,
+  sixteen-reads.Learnt,
   gather-below t,
   gather.Post,
   mix-reads.Asked,
   mix-reads.Learnt,
 ) (gather-at t) gather.Post
-gather-returns-2 t c = one-entry (c .before .before .args .up) (c .before .before .args .v .now) (c .before .slice-known .given 0 .fits) (c .if1 .left)
+gather-returns-4 t c = one-entry (c .before .before .before .before .args .up) (c .before .before .before .before .args .v .now) (c .before .before .before .slice-known .given 0 .fits) (c .if3 .left)
 
 pub +gather-spec : {M : Type 1} → statement M
 +gather-spec = close μ-gather λ t. gather-lts.spec (
+  eight-reads.Asked,
+  eight-reads.Learnt,
+  sixteen-reads.Asked,
+  sixteen-reads.Learnt,
   gather-below t,
   gather.Post,
   mix-reads.Asked,
@@ -158,6 +284,12 @@ pub +gather-spec : {M : Type 1} → statement M
 )
     (gather-at t)
     gather.Post
+    (gather-eight-requires t)
+    (gather-same-length t)
+    (gather-returns t)
+    (gather-sixteen-requires t)
+    (gather-same-length-2 t)
+    (gather-returns-2 t)
     (gather-slice-relend-prefix-gather t)
     (gather-slice-aggregate-gather t)
     (gather-gather-requires t)
@@ -167,6 +299,6 @@ pub +gather-spec : {M : Type 1} → statement M
     (gather-part-gather-end t)
     (gather-gather-requires-2 t)
     (gather-mix-requires t)
-    (gather-same-length t)
-    (gather-returns t)
-    (gather-returns-2 t)
+    (gather-same-length-3 t)
+    (gather-returns-3 t)
+    (gather-returns-4 t)

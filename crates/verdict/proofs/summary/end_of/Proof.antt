@@ -1,19 +1,19 @@
-use Prim.Native.Nat.{ℕ, _-_, _≤_}
+use Prim.Native.Nat.{ℕ, _-_, _^_, _≤_}
+use native.Mathlib.Omega.{arith}
 use mathlib.Core.Path.{_≡_, refl, ap, _∙_}
 use Rattle.verdict.specs.Working.{column}
-use Rattle.verdict.proofs.Ends.{column-next, column-fits}
-use native.Mathlib.Omega.{arith}
+use Rattle.verdict.proofs.Ends.{column-next, column-fits, place-next, place-fits, bit-fits}
 use Rattle.verdict.proofs.summary.end_of.Statement.{statement}
 use Rattle.verdict.proofs.summary.end_of.Tie as tie
 
 abbrev Inv-loop : tie.InvT-loop
-Inv-loop masks wires i state₀ j₀ state j = (j ≤ wires) × (state ≡ column masks j i)
+Inv-loop masks wires i state₀ place₀ j₀ state place j = (j ≤ wires) × (place ≡ 2 ^ j) × (state ≡ column masks j i)
 
 abbrev μ-loop : tie.MeasureT-loop
-μ-loop masks wires i state₀ j₀ state j = wires - j
+μ-loop masks wires i state₀ place₀ j₀ state place j = wires - j
 
 loop-holds : tie.Need-loop-holds Inv-loop μ-loop
-loop-holds c = (omega arith, refl)
+loop-holds c = (omega arith, refl, refl)
 
 mul-state : tie.Need-mul-state Inv-loop μ-loop
 mul-state c = omega arith
@@ -27,17 +27,23 @@ cast-state c = omega arith
 shr-state : tie.Need-shr-state Inv-loop μ-loop
 shr-state c = omega arith
 
-cast-state-2 : tie.Need-cast-state-2 Inv-loop μ-loop
-cast-state-2 c = omega arith
-
-shl-state : tie.Need-shl-state Inv-loop μ-loop
-shl-state c = omega arith
+mul-state-2 : tie.Need-mul-state-2 Inv-loop μ-loop
+mul-state-2 c =
+    let a = c .before .before .before .args in
+    let l = c .before .before .loop in
+    record { fits = bit-fits (a .masks .now) (a .i) (l .j) (l .state) (l .place) (l .inv .1) (l .inv .2) (omega arith) }
 
 add-state : tie.Need-add-state Inv-loop μ-loop
 add-state c =
     let a = c .before .before .before .args in
     let l = c .before .before .loop in
-    record { fits = column-fits (a .masks .now) (a .i) (l .j) (l .state) (l .inv .1) (omega arith) }
+    record { fits = column-fits (a .masks .now) (a .i) (l .j) (l .state) (l .place) (l .inv .1) (l .inv .2) (omega arith) }
+
+add-place : tie.Need-add-place Inv-loop μ-loop
+add-place c =
+    let a = c .before .before .before .args in
+    let l = c .before .before .loop in
+    record { fits = place-fits (a .masks .now) (a .i) (l .j) (l .state) (l .place) (l .inv .1) (l .inv .2) (omega arith) }
 
 add-j : tie.Need-add-j Inv-loop μ-loop
 add-j c = omega arith
@@ -49,13 +55,13 @@ loop-again : tie.Need-loop-again Inv-loop μ-loop
 loop-again c =
     let a = c .before .before .before .args in
     let l = c .before .before .loop in
-    (omega arith, column-next (a .masks .now) (a .i) (l .j) (l .state) (l .inv .1) (omega arith))
+    (omega arith, place-next (a .masks .now) (a .i) (l .j) (l .state) (l .place) (l .inv .1) (l .inv .2) (omega arith), column-next (a .masks .now) (a .i) (l .j) (l .state) (l .place) (l .inv .1) (l .inv .2) (omega arith))
 
 returns : tie.Need-returns Inv-loop μ-loop
 returns c =
     let a = c .before .before .args in
     let l = c .before .loop in
-    l .inv .1 ∙ ap (λ (n : ℕ). column (a .masks .now) n (a .i)) (let e : l .j ≡ a .wires = omega arith in e)
+    l .inv .2 ∙ ap (λ (n : ℕ). column (a .masks .now) n (a .i)) (let e : l .j ≡ a .wires = omega arith in e)
 
 pub end-of-spec : {M : Type 1} → statement M
 end-of-spec =
@@ -68,9 +74,9 @@ end-of-spec =
     shared-slice-read-state
     cast-state
     shr-state
-    cast-state-2
-    shl-state
+    mul-state-2
     add-state
+    add-place
     add-j
     loop-less
     loop-again
