@@ -11,10 +11,10 @@ use Rattle.refusal.specs.Checks.{passed, refused, outcome}
 use Rattle.refusal.specs.Contract.{values}
 use Rattle.refusal.proofs.Contracts.{Distinct, same-refusal}
 use Rattle.refusal.proofs.Rooms.{earlier-refused, room-refused, room-enough}
-use Rattle.circuit.specs.Gates.{putAt}
 use Rattle.circuit.specs.File.{fileChecks}
 use Rattle.circuit.proofs.Writing.{put-fits}
 use Rattle.listing.specs.declared.Listed.the-variants.{Length, Refused}
+use Rattle.listing.specs.Text.{Wrote}
 use Rattle.listing.specs.Listing.{listingOfFile, listedSays, Lists}
 
 module _ (b : Bool) (f before : List ℕ) where
@@ -24,15 +24,14 @@ module _ (b : Bool) (f before : List ℕ) where
   pub file-fails : (r : Refusal) → outcome (fileChecks 0 f) ≡ refused r → Lists b f before (Refused r) before
   file-fails r e = earlier-refused listedSays (fileChecks 0 f) (length text) (length text ∷ []) text before (Refused r) r refl e
 
-  module _ (e : outcome (fileChecks 0 f) ≡ passed) (l : ℕ) (p : l ≡ length text) where
-    pub room-fails : length before < l → (r : Refusal) → r ≡ refusal ROOM → Lists b f before (Refused r) before
-    room-fails h r q = room-refused listedSays (fileChecks 0 f) (length text) (length text ∷ []) text before e (rw p at h) (Refused r) r refl q
+  module _ (e : outcome (fileChecks 0 f) ≡ passed) where
+    pub room-fails : length before < length text → (r : Refusal) → r ≡ refusal ROOM → Lists b f before (Refused r) before
+    room-fails h r q = room-refused listedSays (fileChecks 0 f) (length text) (length text ∷ []) text before e h (Refused r) r refl q
 
-    pub answered : l ≤ length before → (after : List ℕ) → after ≡ putAt text 0 before → Lists b f before (Length l) after
-    answered h after q =
-        let k : length text ≤ length before = rw p at h in
-        room-enough listedSays (fileChecks 0 f) (length text) (length text ∷ []) text before e k (Length l) after (ap (λ (n : ℕ). values (n ∷ [])) p)
-        (q ∙ put-fits text 0 before (rw (zero-add (length text)) k) ∙ ap (λ (n : ℕ). text ++ drop n before) (zero-add (length text)))
+    pub answered : length text ≤ length before → (l : ℕ) (after : List ℕ) → Wrote text 0 before l after → Lists b f before (Length l) after
+    answered h l after w =
+        room-enough listedSays (fileChecks 0 f) (length text) (length text ∷ []) text before e h (Length l) after (ap (λ (n : ℕ). values (n ∷ [])) (w .ends ∙ zero-add (length text)))
+        (w .written ∙ put-fits text 0 before (rw (zero-add (length text)) h) ∙ ap (λ (n : ℕ). text ++ drop n before) (zero-add (length text)))
 
 pub listed-distinct : Distinct listedSays
 listed-distinct (Length l) (Length m) e = cc

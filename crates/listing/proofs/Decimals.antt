@@ -1,6 +1,7 @@
 -- 01, "Decimal, no leading zeros": a number's text says the number, starts with no zero but for 0 itself, and is short.
 use Prim.Native.Nat.{ℕ, zero, suc, _+_, _-_, _*_, _/_, _%_, _<_, _≤_}
 use native.Mathlib.Decide.{decLt}
+use native.Mathlib.Nat.{div-div-eq-div-mul}
 use native.Mathlib.Omega.{arith}
 use mathlib.Core.Path.{_≡_, refl, sym, ap, _∙_}
 use mathlib.Core.List.{List, [], _∷_, _++_}
@@ -71,6 +72,52 @@ pub no-leading-zero : (n : ℕ) → 0 < n → 48 < getD (decimal n) 0 0
 no-leading-zero = by-digits (λ n. 0 < n → 48 < getD (decimal n) 0 0) (λ n h k. rw (decimal-small n h) (omega arith))
     (λ n h ih k. rw (decimal-more n h, List·getD-append (decimal (n / 10)) (digit (n % 10)) 0 0 (decimal-some (n / 10))) (ih (omega arith)))
 
+-- numbers of one to five digits, digit by digit
+pub decimal-one : (n : ℕ) → n < 10 → decimal n ≡ (48 + n % 10) ∷ []
+decimal-one n h = let e : n % 10 ≡ n = omega arith in rw e (decimal-small n h)
+
+longer : (n : ℕ) (ds : List ℕ) → 10 ≤ n → decimal (n / 10) ≡ ds → decimal n ≡ ds ++ digit (n % 10)
+longer n ds h e = decimal-more n h ∙ ap (_++ digit (n % 10)) e
+
+pub decimal-two : (n : ℕ) → 10 ≤ n → n < 100 → decimal n ≡ (48 + n / 10 % 10) ∷ (48 + n % 10) ∷ []
+decimal-two n h l = longer n _ h (decimal-one (n / 10) (omega arith))
+
+pub decimal-three : (n : ℕ) → 100 ≤ n → n < 1000 → decimal n ≡ (48 + n / 100 % 10) ∷ (48 + n / 10 % 10) ∷ (48 + n % 10) ∷ []
+decimal-three n h l = longer n _ (omega arith) (rw (div-div-eq-div-mul n 10 10) at (decimal-two (n / 10) (omega arith) (omega arith)))
+
+pub decimal-four : (n : ℕ) → 1000 ≤ n → n < 10000 → decimal n ≡ (48 + n / 1000 % 10) ∷ (48 + n / 100 % 10) ∷ (48 + n / 10 % 10) ∷ (48 + n % 10) ∷ []
+decimal-four n h l = longer n _ (omega arith) (rw (div-div-eq-div-mul n 10 100, div-div-eq-div-mul n 10 10) at (decimal-three (n / 10) (omega arith) (omega arith)))
+
+pub decimal-five : (n : ℕ) → 10000 ≤ n → n < 100000 → decimal n ≡ (48 + n / 10000 % 10) ∷ (48 + n / 1000 % 10) ∷ (48 + n / 100 % 10) ∷ (48 + n / 10 % 10) ∷ (48 + n % 10) ∷ []
+decimal-five n h l = longer n _ (omega arith) (rw (div-div-eq-div-mul n 10 1000, div-div-eq-div-mul n 10 100, div-div-eq-div-mul n 10 10) at (decimal-four (n / 10) (omega arith) (omega arith)))
+
+-- a number's last five digits, as they are written
+pub record LastFive (n a b c d e : ℕ) : Type 0 where
+  pub fifth : a ≡ 48 + n / 10000 % 10
+  pub fourth : b ≡ 48 + n / 1000 % 10
+  pub third : c ≡ 48 + n / 100 % 10
+  pub second : d ≡ 48 + n / 10 % 10
+  pub last : e ≡ 48 + n % 10
+
+module _ {n a b c d e : ℕ} (l : LastFive n a b c d e) where
+  pub five-written : 10000 ≤ n → n < 65536 → a ∷ b ∷ c ∷ d ∷ e ∷ [] ≡ decimal n
+  five-written h k = cc (decimal-five n h (omega arith))
+
+  pub four-written : 1000 ≤ n → n < 10000 → b ∷ c ∷ d ∷ e ∷ [] ≡ decimal n
+  four-written h k = cc (decimal-four n h k)
+
+  pub three-written : 100 ≤ n → n < 1000 → c ∷ d ∷ e ∷ [] ≡ decimal n
+  three-written h k = cc (decimal-three n h k)
+
+  pub two-written : 10 ≤ n → n < 100 → d ∷ e ∷ [] ≡ decimal n
+  two-written h k = cc (decimal-two n h k)
+
+  pub one-written : n < 10 → e ∷ [] ≡ decimal n
+  one-written h = cc (decimal-one n h)
+
+pub one-digit : (n : ℕ) → n < 10 → length (decimal n) ≡ 1
+one-digit n h = ap length (decimal-small n h)
+
 -- one digit more than the number without its last
 one-longer : (m n : ℕ) → length (decimal (n / 10)) ≤ m → length (decimal n) ≤ suc m
 one-longer m n h = by (decLt n 10)
@@ -78,9 +125,6 @@ one-longer m n h = by (decLt n 10)
     by : Dec (n < 10) → length (decimal n) ≤ suc m
     by (yes l) = rw (decimal-small n l) (omega arith)
     by (no l) = rw (decimal-more n (omega arith)) (omega (arith, length-append (decimal (n / 10)) (digit (n % 10))))
-
-pub one-digit : (n : ℕ) → n < 10 → length (decimal n) ≡ 1
-one-digit n h = ap length (decimal-small n h)
 
 pub two-digits : (n : ℕ) → n < 100 → length (decimal n) ≤ 2
 two-digits n h = one-longer 1 n (omega (arith, one-digit (n / 10) (omega arith)))

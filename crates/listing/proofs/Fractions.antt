@@ -1,10 +1,13 @@
--- 01, "K/D being angle/32,768 in lowest terms": K/D equals the angle, no number but 1 divides both, and no other fraction is so; halving finds it.
+-- 01, "K/D being angle/32,768 in lowest terms": K/D equals the angle, no number but 1 divides both, and no other fraction is so; the zeros below the lowest digit find it.
 use Prim.Native.Nat.{ℕ, zero, suc, _+_, _-_, _*_, _/_, _%_, _^_, _<_, _≤_}
 use native.Mathlib.Decide.{ℕ-discrete, decLt}
 use native.Mathlib.Omega.{arith}
-use native.Mathlib.Nat.{div-add-mod', mod-lt, mul-assoc, pow-suc, eq-of-mul-eq-mul-left}
+use native.Mathlib.Nat.{div-add-mod', mod-lt, eq-of-mul-eq-mul-left, max-zero, max-eq-right, div-div-eq-div-mul}
 use mathlib.Core.Path.{_≡_, refl, sym, ap, ap₂, _∙_}
-use mathlib.Core.Logic.{_⊎_, inl, inr}
+use mathlib.Core.Logic.{_⊎_, inl, inr, ⊎-elim}
+use lib.Bits.{bitOr, or-step}
+use lib.Count.{trailingZeros}
+use lib.Pow.{pow-add, shl-shr}
 use borrow.Author.Tests.{eqb-true, eqb-false}
 use Rattle.numbers.specs.Search.{least}
 use Rattle.numbers.proofs.Search.{Least, least-found}
@@ -84,17 +87,65 @@ odd-divisor k g a h p = by (ℕ-discrete (g % 2) 0)
     by (yes x) = let y : g * a ≡ g / 2 * 2 * a = ap (_* a) (omega arith) in absurd (omega arith)
     by (no x) = omega arith
 
--- the halving: k over 2^e stays the angle over 32,768, and is in lowest terms where k is odd or e is 0
-pub halving : (angle k e : ℕ) → 0 < e → (k % 2 ≡ 1 → ⊥) → k * 32768 ≡ angle * 2 ^ e → k / 2 * 32768 ≡ angle * 2 ^ (e - 1)
-halving angle k zero h n q = absurd (omega arith)
-halving angle k (suc e) h n q =
-    let p : suc e - 1 ≡ e = omega arith in
-    let d : k * 32768 ≡ angle * 2 ^ e * 2 = rw (mul-assoc, ← pow-suc) q in
-    rw p (omega (arith, n))
-
+-- k over 2^e that is the angle over 32,768 is in lowest terms where k is odd or e is 0
 pub halved : (angle k e : ℕ) → (k % 2 ≡ 1) ⊎ (e ≡ 0) → k * 32768 ≡ angle * 2 ^ e → over k (2 ^ e) ≡ fractionOf angle
 halved angle k e h q = fraction-one angle k (2 ^ e) q (by h)
   where
     by : (k % 2 ≡ 1) ⊎ (e ≡ 0) → (g a b : ℕ) → k ≡ g * a → 2 ^ e ≡ g * b → g ≡ 1
     by (inl o) g a b p d = odd-divides-power e g b (odd-divisor k g a o p) d
     by (inr o) g a b p d = divides-one g b (ap (2 ^_) (sym o) ∙ d)
+
+-- 2^t is the largest power of two that divides a and 2^k
+record Twos (k a t : ℕ) : Type 0 where
+  pub within : t ≤ k
+  pub divides : a / 2 ^ t * 2 ^ t ≡ a
+  pub largest : (a / 2 ^ t % 2 ≡ 1) ⊎ (t ≡ k)
+
+trailing-odd : (k m : ℕ) → trailingZeros (suc k) (m * 2 + 1) ≡ 0
+unfolding trailingZeros
+trailing-odd k m = let e : (m * 2 + 1) % 2 ≡ 1 = omega arith in rw e
+
+trailing-even : (k m : ℕ) → trailingZeros (suc k) (m * 2 + 0) ≡ suc (trailingZeros k m)
+unfolding trailingZeros
+trailing-even k m = let e : (m * 2 + 0) % 2 ≡ 0 = omega arith in let q : (m * 2 + 0) / 2 ≡ m = omega arith in rw (e, q)
+
+twos-none : (k a : ℕ) → (a % 2 ≡ 1) ⊎ (0 ≡ k) → Twos k a 0
+twos-none k a h = record { within = omega arith; divides = omega arith; largest = ⊎-elim (λ o. inl (omega arith)) inr h }
+
+twos-more : (k a t : ℕ) → a % 2 ≡ 0 → Twos k (a / 2) t → Twos (suc k) a (suc t)
+twos-more k a t e w =
+    let p : 2 ^ suc t ≡ 2 * 2 ^ t = omega arith in
+    let q : a / 2 ^ suc t ≡ a / 2 / 2 ^ t = ap (a /_) p ∙ sym (div-div-eq-div-mul a 2 (2 ^ t)) in
+    record {
+      within = omega (arith, w .within);
+      divides = ap₂ (_*_) q p ∙ omega (arith, w .divides);
+      largest = ⊎-elim (λ o. inl (ap (_% 2) q ∙ o)) (λ o. inr (ap suc o)) (w .largest);
+    }
+
+or-half : (k a : ℕ) → bitOr a (2 ^ suc k) ≡ bitOr (a / 2) (2 ^ k) * 2 + a % 2
+or-half k a =
+    let q : 2 ^ suc k / 2 ≡ 2 ^ k = omega arith in
+    let r : 2 ^ suc k % 2 ≡ 0 = omega arith in
+    or-step a (2 ^ suc k) ∙ rw (q, r, max-zero (a % 2))
+
+-- t is the number of zeros below the lowest digit that is set in a or 2^k
+trailing-twos : (k a : ℕ) → Twos k a (trailingZeros (suc k) (bitOr a (2 ^ k)))
+trailing-twos zero a =
+    let e : bitOr a 1 ≡ bitOr (a / 2) 0 * 2 + 1 = or-step a 1 ∙ ap (bitOr (a / 2) 0 * 2 +_) (max-eq-right (omega arith)) in
+    rw (e, trailing-odd 0 (bitOr (a / 2) 0)) (twos-none 0 a (inr refl))
+trailing-twos (suc k) a = by (a % 2) refl (trailing-twos k (a / 2))
+  where
+    by : (b : ℕ) → a % 2 ≡ b → Twos k (a / 2) (trailingZeros (suc k) (bitOr (a / 2) (2 ^ k))) → Twos (suc k) a (trailingZeros (suc (suc k)) (bitOr a (2 ^ suc k)))
+    by zero e ih = rw (or-half k a, e, trailing-even (suc k) (bitOr (a / 2) (2 ^ k))) (twos-more k a _ e ih)
+    by (suc zero) e ih = rw (or-half k a, e, trailing-odd (suc k) (bitOr (a / 2) (2 ^ k))) (twos-none (suc k) a (inl e))
+    by (suc (suc b)) e ih = absurd (omega arith)
+
+-- so that both are divided by it
+pub lowest-terms : (angle t : ℕ) → t ≡ trailingZeros 16 (bitOr angle 32768) → (t ≤ 15) × (over (angle / 2 ^ t) (32768 / 2 ^ t) ≡ fractionOf angle)
+lowest-terms angle t e =
+    let w : Twos 15 angle t = rw e (trailing-twos 15 angle) in
+    let s : 15 - t + t ≡ 15 = omega (arith, w .within) in
+    let m : 2 ^ (15 - t) * 2 ^ t ≡ 32768 = sym (pow-add 2 (15 - t) t) ∙ ap (2 ^_) s in
+    let q : angle / 2 ^ t * 32768 ≡ angle * 2 ^ (15 - t) = omega (arith, ap (angle / 2 ^ t *_) m, ap (_* 2 ^ (15 - t)) (w .divides)) in
+    let d : 32768 / 2 ^ t ≡ 2 ^ (15 - t) = ap (_/ 2 ^ t) (sym m) ∙ shl-shr (2 ^ (15 - t)) t in
+    (w .within, ap (over (angle / 2 ^ t)) d ∙ halved angle (angle / 2 ^ t) (15 - t) (⊎-elim (λ o. inl o) (λ o. inr (omega arith)) (w .largest)) q)

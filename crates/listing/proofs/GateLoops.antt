@@ -1,27 +1,33 @@
--- The loops over a good file's gates: the next gate of the list, and its end.
-use Prim.Native.Nat.{ℕ, suc, _<_, _≤_}
+-- The loops over a good file's gates: the next gate of the list, its end, and how long the lines are.
+use Prim.Native.Nat.{ℕ, suc, _+_, _*_, _<_, _≤_}
+use native.Mathlib.Omega.{arith}
 use mathlib.Core.Path.{_≡_}
 use mathlib.Core.List.{List, [], _∷_}
-use lib.ListN.{drop}
+use lib.ListN.{length, drop}
 use Rattle.refusal.specs.Checks.{passed, outcome}
-use Rattle.circuit.specs.declared.Placed.{Placed}
-use Rattle.circuit.specs.declared.Decoded.the-variants.{Good, Bad}
+use Rattle.circuit.specs.declared.Gate.{Gate}
 use Rattle.circuit.specs.Gates.{Sound}
-use Rattle.circuit.specs.File.{wiresOf, countOf, gatesOf, gateAt, fileChecks}
+use Rattle.circuit.specs.File.{wiresOf, countOf, gatesOf, fileChecks}
 use Rattle.circuit.proofs.Decoding.{Bytes, sound-wider}
-use Rattle.circuit.proofs.Files.{good-file, gate-next, gate-not-bad, gates-end}
+use Rattle.circuit.proofs.Files.{good-file, saidAt, gate-said, gates-end, file-sound, length-gates}
+use Rattle.listing.specs.Listing.{gateLines}
+use Rattle.listing.proofs.Pieces.{no-lines, lines-short}
 
-module _ (f : List ℕ) (bytes : Bytes f) (passes : outcome (fileChecks 0 f) ≡ passed) (i : ℕ) where
-  pub next-gate : (q : Placed) → i < countOf f → gateAt f i ≡ Good q → drop i (gatesOf f) ≡ q .gate ∷ drop (suc i) (gatesOf f)
-  next-gate q h e = gate-next f bytes (good-file 0 f passes) i q h e .0
-
-  pub next-sound : (q : Placed) → i < countOf f → gateAt f i ≡ Good q → Sound 10 (q .gate)
-  next-sound q h e =
+module _ (f : List ℕ) (bytes : Bytes f) (passes : outcome (fileChecks 0 f) ≡ passed) where
+  -- the gate that the bytes at i say
+  pub next-gate : (i : ℕ) (q : Gate) → i < countOf f → q ≡ saidAt f i → (drop i (gatesOf f) ≡ q ∷ drop (suc i) (gatesOf f)) × Sound 10 q
+  next-gate i q h e =
       let g = good-file 0 f passes in
-      sound-wider (wiresOf f) 10 (q .gate) (g .few) (gate-next f bytes g i q h e .2)
+      let n = gate-said f bytes g i h in
+      rw e (n .0, sound-wider (wiresOf f) 10 (saidAt f i) (g .few) (n .1))
 
-  pub never-bad : {A : Type 0} → i < countOf f → gateAt f i ≡ Bad → A
-  never-bad h e = absurd (gate-not-bad f bytes (good-file 0 f passes) i h e)
+  pub four-inside : (i : ℕ) → i < countOf f → (12 + 4 * i ≤ length f) × (i < 2048)
+  four-inside i h = let g = good-file 0 f passes in (omega (arith, g .whole), omega (arith, g .count))
 
-  pub at-end : countOf f ≤ i → drop i (gatesOf f) ≡ []
-  at-end h = gates-end f bytes (good-file 0 f passes) i h
+  pub none-after : (i : ℕ) → countOf f ≤ i → gateLines (drop i (gatesOf f)) ≡ []
+  none-after i h = no-lines (drop i (gatesOf f)) (gates-end f bytes (good-file 0 f passes) i h)
+
+  pub lines-fit : length (gateLines (gatesOf f)) ≤ 25 * countOf f
+  lines-fit =
+      let g = good-file 0 f passes in
+      omega (arith, lines-short (wiresOf f) (g .few) (gatesOf f) (file-sound f bytes g), length-gates f bytes g)

@@ -1,5 +1,5 @@
 -- A text written piece by piece: what is left of it.
-use Prim.Native.Nat.{ℕ, suc, _+_, _/_, _%_, _<_, _≤_}
+use Prim.Native.Nat.{ℕ, suc, _+_, _<_, _≤_}
 use native.Mathlib.Nat.{add-zero}
 use native.Mathlib.Numerals.{add-one}
 use native.Mathlib.Omega.{arith}
@@ -9,8 +9,7 @@ use lib.ListN.{length, getD, drop, set, length-append, length-drop, drop-of-leng
 use lib.Seq.{drop-cons}
 use Rattle.circuit.specs.Gates.{putAt}
 use Rattle.circuit.proofs.Writing.{put-put, put-sets, length-put}
-use Rattle.listing.specs.Text.{digit, decimal, Wrote}
-use Rattle.listing.proofs.Decimals.{decimal-small, decimal-more, one-digit}
+use Rattle.listing.specs.Text.{Wrote}
 
 -- `rest` is left of a text that goes to `start`, and it goes to `at`
 pub record Left (text : List ℕ) (start : ℕ) (before rest : List ℕ) (at : ℕ) (now : List ℕ) : Type 0 where
@@ -19,8 +18,8 @@ pub record Left (text : List ℕ) (start : ℕ) (before rest : List ℕ) (at : �
   pub ends : at + length rest ≡ start + length text
   pub done : putAt rest at now ≡ putAt text start before
 
-pub all-left : (text : List ℕ) (at : ℕ) (out : List ℕ) → at + length text ≤ length out → Left text at out text at out
-all-left text at out h = record { long = refl; fits = h; ends = refl; done = refl }
+pub all-left : {text rest : List ℕ} (at : ℕ) (out : List ℕ) → text ≡ rest → at + length text ≤ length out → Left text at out rest at out
+all-left {text} at out e h = subst (λ (r : List ℕ). Left text at out r at out) e (record { long = refl; fits = h; ends = refl; done = refl })
 
 module _ {text : List ℕ} {start : ℕ} {before : List ℕ} {at : ℕ} {now : List ℕ} (t rest : List ℕ) (l : Left text start before (t ++ rest) at now) where
   pub room : at + length t ≤ length now
@@ -46,6 +45,13 @@ module _ {text : List ℕ} {start : ℕ} {before : List ℕ} {at : ℕ} {now : L
       let m : Left text start before [] at now = subst (λ (r : List ℕ). Left text start before r at now) e l in
       record { ends = sym (add-zero at) ∙ m .ends; written = sym (put-sets [] at now (m .fits)) ∙ m .done }
 
+-- the same text, said otherwise
+pub wrote-same : {t u : List ℕ} {at : ℕ} {before : List ℕ} {behind : ℕ} {after : List ℕ} → t ≡ u → Wrote t at before behind after → Wrote u at before behind after
+wrote-same {at = at} {before} {behind} {after} e w = subst (λ (r : List ℕ). Wrote r at before behind after) e w
+
+pub room-same : {t u : List ℕ} (at : ℕ) (out : List ℕ) → t ≡ u → at + length u ≤ length out → at + length t ≤ length out
+room-same at out e h = rw e h
+
 -- nothing is written
 pub wrote-nothing : (at : ℕ) (out : List ℕ) → at ≤ length out → Wrote [] at out at out
 wrote-nothing at out h = record { ends = sym (add-zero at); written = sym (put-sets [] at out (omega arith)) }
@@ -56,7 +62,7 @@ wrote-one b at out h = record { ends = refl; written = sym (put-sets (b ∷ []) 
 
 -- a word, byte by byte
 pub word-starts : (text : List ℕ) (at : ℕ) (out : List ℕ) → at + length text ≤ length out → Left text at out (drop 0 text) (at + 0) out
-word-starts text at out h = rw (add-zero at) (all-left text at out h)
+word-starts text at out h = rw (add-zero at) (all-left at out refl h)
 
 module _ (text : List ℕ) (start : ℕ) (before : List ℕ) (i : ℕ) (now : List ℕ) (l : Left text start before (drop i text) (start + i) now) where
   pub byte-room : i < length text → start + i < length now
@@ -71,20 +77,3 @@ module _ (text : List ℕ) (start : ℕ) (before : List ℕ) (i : ℕ) (now : Li
 
   pub word-written : length text ≤ i → Wrote text start before (start + i) now
   word-written h = none-left (drop-of-length-le text {i = i} h) l
-
--- a number of one digit, and a number as that without its last digit, and the last
-module _ (n at : ℕ) (out : List ℕ) (fits : at + length (decimal n) ≤ length out) where
-  pub digit-room : n < 10 → at + 1 ≤ length out
-  digit-room h = omega (arith, one-digit n h)
-
-  pub digit-written : n < 10 → {behind : ℕ} {after : List ℕ} → Wrote (digit n) at out behind after → Wrote (decimal n) at out behind after
-  digit-written h w = rw (decimal-small n h) w
-
-  pub digits-left : 10 ≤ n → Left (decimal n) at out (decimal (n / 10) ++ digit (n % 10)) at out
-  digits-left h = subst (λ (r : List ℕ). Left (decimal n) at out r at out) (decimal-more n h) (all-left (decimal n) at out fits)
-
-  pub first-room : 10 ≤ n → at + length (decimal (n / 10)) ≤ length out
-  first-room h = room (decimal (n / 10)) (digit (n % 10)) (digits-left h)
-
-  pub last-left : 10 ≤ n → {behind : ℕ} {after : List ℕ} → Wrote (decimal (n / 10)) at out behind after → Left (decimal n) at out (digit (n % 10)) behind after
-  last-left h w = less-left (decimal (n / 10)) (digit (n % 10)) (digits-left h) w

@@ -1,6 +1,7 @@
 // Fixed words and numbers, written as text. Each writer answers the place behind what it wrote.
+ghost use mathlib.Core.Path.{_≡_};
 ghost use mathlib.Core.List.{_++_};
-ghost use Prim.Native.Nat.{_+_, _≤_};
+ghost use Prim.Native.Nat.{_+_, _/_, _%_, _≤_};
 ghost use lib.ListN.{length};
 ghost use Rattle.listing.specs.Text.{decimal, Wrote};
 
@@ -16,18 +17,60 @@ pub fn put_text(text: &[u8], out: &mut [u8], at: usize) -> usize
     at + i
 }
 
+// A number's last digit; `tenth` is the number without it.
+fn digit(n: u16, tenth: u16) -> u8
+    requires { ⌜ tenth ≡ n / 10 ⌝ }
+    ensures { λ r. ⌜ r ≡ 48 + n % 10 ⌝ }
+{
+    48 + ((n - 10 * tenth) as u8)
+}
+
+// How many digits a number has.
+pub fn digits(n: u16) -> usize
+    ensures { λ r. ⌜ (r ≡ length (decimal n)) × (r ≤ 5) ⌝ }
+{
+    if n < 10 {
+        return 1;
+    }
+    if n < 100 {
+        return 2;
+    }
+    if n < 1000 {
+        return 3;
+    }
+    if n < 10000 {
+        return 4;
+    }
+    5
+}
+
 // A number in decimal, without leading zeros.
 fn put_decimal(n: u16, out: &mut [u8], at: usize) -> usize
     requires { ⌜ at + length (decimal n) ≤ length (now out) ⌝ }
     ensures { λ r. ⌜ Wrote (decimal n) at (now (out .entry)) r (now (out .exit)) ⌝ }
 {
-    if n < 10 {
-        out[at] = 48 + (n as u8);
-        return at + 1;
+    let tens = n / 10;
+    let hundreds = n / 100;
+    let thousands = n / 1000;
+    let myriads = n / 10000;
+    let a = digit(myriads, 0);
+    let b = digit(thousands, myriads);
+    let c = digit(hundreds, thousands);
+    let d = digit(tens, hundreds);
+    let e = digit(n, tens);
+    if 10000 <= n {
+        return put_text(&[a, b, c, d, e], out, at);
     }
-    let last = put_decimal(n / 10, out, at);
-    out[last] = 48 + ((n % 10) as u8);
-    last + 1
+    if 1000 <= n {
+        return put_text(&[b, c, d, e], out, at);
+    }
+    if 100 <= n {
+        return put_text(&[c, d, e], out, at);
+    }
+    if 10 <= n {
+        return put_text(&[d, e], out, at);
+    }
+    put_text(&[e], out, at)
 }
 
 // A fixed word, then a number.

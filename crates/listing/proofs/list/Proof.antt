@@ -1,15 +1,16 @@
-use Prim.Native.Nat.{ℕ, _+_, _≤_}
+use Prim.Native.Nat.{ℕ, _≤_}
 use native.Mathlib.Omega.{arith}
-use mathlib.Core.Path.{_≡_}
+use mathlib.Core.Path.{sym, _∙_}
 use mathlib.Core.List.{List, _++_}
 use lib.ListN.{length}
 use Rattle.circuit.specs.File.{gatesOf}
 use Rattle.circuit.proofs.Files.{Answered, read-answers, read-refuses}
 use Rattle.listing.specs.Listing.{headLines, wrapLine, gateLines, listingOfFile}
 use Rattle.listing.proofs.Writing.{Left, room, less-left, all-written}
-use Rattle.listing.proofs.Pieces.{listing-left, listing-length}
+use Rattle.listing.proofs.Pieces.{listing-left}
 use Rattle.listing.proofs.Answers.{file-fails, room-fails, answered}
 use borrow.Author.Needs.{needs}
+use borrow.Author.Tests.{leb-true, leb-false, not-true, not-false}
 use Rattle.listing.proofs.list.Statement.{statement}
 use Rattle.listing.proofs.list.Tie as tie
 
@@ -22,21 +23,15 @@ good c =
     let v = c .wires .given in
     read-answers 0 (start c .args .file .now) (got .read .result) (got .read .ensures) (v .0 .0) (v .0 .1 .0) (v .1)
 
--- the length that room is checked against is the text's
-abbrev w1 : tie.After-lines-length → tie.After-wires
-w1 c = c .before .before .before
-
-whole : (c : tie.After-lines-length) → let a = start (w1 c) .args in c .before .frame-length .result + c .lines-length .result ≡ length (listingOfFile (a .wrapped) (a .file .now))
-whole c =
-    let a = start (w1 c) .args in
-    listing-length (a .wrapped) (a .file .now) (w1 c .wires .given .0 .0) (good (w1 c) .wires) (c .before .frame-length .result) (c .lines-length .result) (c .before .frame-length .ensures .0) (c .lines-length .ensures .0)
-
 -- what is left of the text
+abbrev w0 : tie.Else1 → tie.After-wires
+w0 c = c .before .before .before
+
 abbrev s0 : tie.Else1 → tie.Start
-s0 c = start (w1 (c .before))
+s0 c = start (w0 c)
 
 abbrev wires : tie.Else1 → ℕ
-wires c = w1 (c .before) .wires .given .0 .0
+wires c = w0 c .wires .given .0 .0
 
 abbrev text : tie.Else1 → List ℕ
 text c = listingOfFile (s0 c .args .wrapped) (s0 c .args .file .now)
@@ -47,11 +42,14 @@ lines c = gateLines (gatesOf (s0 c .args .file .now))
 abbrev wrap : tie.Else1 → List ℕ
 wrap c = wrapLine (s0 c .args .wrapped) (wires c)
 
+fitting : (c : tie.Else1) → length (text c) ≤ length (s0 c .args .out .now)
+fitting c = let f = c .before in leb-true (length (text c)) (length (s0 c .args .out .now)) (sym (f .fits2 .ensures) ∙ not-false (f .fits2 .result) (c .if1 .left))
+
 left0 : (c : tie.Else1) → let out = s0 c .args .out .now in Left (text c) 0 out (headLines (wires c) ++ (wrap c ++ (lines c ++ wrap c))) 0 out
-left0 c = let a = s0 c .args in listing-left (a .wrapped) (a .file .now) (wires c) (a .out .now) (good (w1 (c .before)) .wires) (omega (arith, whole (c .before), c .if1 .left))
+left0 c = let a = s0 c .args in listing-left (a .wrapped) (a .file .now) (wires c) (a .out .now) (good (w0 c) .wires) (fitting c)
 
 some-wires : (c : tie.Else1) → 1 ≤ wires c
-some-wires c = let g = good (w1 (c .before)) in omega (arith, g .wires, g .file .some)
+some-wires c = let g = good (w0 c) in omega (arith, g .wires, g .file .some)
 
 abbrev s1 : tie.After-put-head → tie.Else1
 s1 c = c .before .before
@@ -80,25 +78,20 @@ enum-known-refusal c = search needs
 enum-known-wires : tie.Need-enum-known-wires
 enum-known-wires c = search needs
 
-frame-length-requires : tie.Need-frame-length-requires
-frame-length-requires c κs = let g = good (c .before) in (omega (arith, g .wires, g .file .some), omega (arith, g .wires, g .file .few))
-
-lines-length-requires : tie.Need-lines-length-requires
-lines-length-requires c κs = let g = good (c .before .before) in (g .passes, g .count)
-
-add-length : tie.Need-add-length
-add-length c = search needs
+fits-requires : tie.Need-fits-requires
+fits-requires c κs = let g = good (c .before) in (g .passes, g .count, g .wires)
 
 by-requires : tie.Need-by-requires
 by-requires c κs = search needs
 
 returns : tie.Need-returns
-returns c = let l = c .before .before in
-    let a = start (w1 l) .args in
-    room-fails (a .wrapped) (a .file .now) (a .out .now) (good (w1 l) .passes) _ (whole l) (omega (arith, c .before .if1 .taken)) (c .by .result) (c .by .ensures)
+returns c = let f = c .before .before in
+    let w = f .before .before in
+    let a = start w .args in
+    room-fails (a .wrapped) (a .file .now) (a .out .now) (good w .passes) (leb-false (length (listingOfFile (a .wrapped) (a .file .now))) (length (a .out .now)) (sym (f .fits2 .ensures) ∙ not-true (f .fits2 .result) (c .before .if1 .taken))) (c .by .result) (c .by .ensures)
 
 put-head-requires : tie.Need-put-head-requires
-put-head-requires c κs = search needs
+put-head-requires c κs = let s = c .before in room (headLines (wires s)) (wrap s ++ (lines s ++ wrap s)) (left0 s)
 
 put-wrap-requires : tie.Need-put-wrap-requires
 put-wrap-requires c κs = let p = c .before .before .before in let s = s1 p in (some-wires s, room (wrap s) (lines s ++ wrap s) (left1 p))
@@ -106,7 +99,7 @@ put-wrap-requires c κs = let p = c .before .before .before in let s = s1 p in (
 put-gates-requires : tie.Need-put-gates-requires
 put-gates-requires c κs = let p = c .before .before .before in
     let s = s1 (s2 p) in
-    let g = good (w1 (s .before)) in
+    let g = good (w0 s) in
     ((g .passes, g .count), room (lines s) (wrap s) (left2 p))
 
 put-wrap-requires-2 : tie.Need-put-wrap-requires-2
@@ -126,7 +119,7 @@ returns-3 c = let p = c .before .before in
     let g = p .before .before .before .before in
     let s = s1 (s2 (s3 g)) in
     let a = s0 s .args in
-    answered (a .wrapped) (a .file .now) (a .out .now) (good (w1 (s .before)) .passes) _ (whole (s .before)) (s .if1 .left) (p .put-wrap2 .last .1 .1 .0) (all-written (left3 g) (p .put-wrap2 .ensures) .written)
+    answered (a .wrapped) (a .file .now) (a .out .now) (good (w0 s) .passes) (fitting s) (p .put-wrap2 .result) (p .put-wrap2 .last .1 .1 .0) (all-written (left3 g) (p .put-wrap2 .ensures))
 
 pub list-spec : {M : Type 1} → statement M
 list-spec =
@@ -135,9 +128,7 @@ list-spec =
     read-requires
     enum-known-refusal
     enum-known-wires
-    frame-length-requires
-    lines-length-requires
-    add-length
+    fits-requires
     by-requires
     returns
     put-head-requires

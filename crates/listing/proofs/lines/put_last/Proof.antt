@@ -1,3 +1,4 @@
+use mathlib.Core.Path.{refl}
 use mathlib.Core.List.{_++_}
 use Rattle.listing.specs.Text.{decimal}
 use Rattle.listing.specs.Listing.{closing}
@@ -7,7 +8,7 @@ use Rattle.listing.proofs.lines.put_last.Statement.{statement}
 use Rattle.listing.proofs.lines.put_last.Tie as tie
 
 start : (c : tie.Start) → Left ((c .args .word .now ++ decimal (c .args .n)) ++ closing) (c .args .at) (c .args .out .now) ((c .args .word .now ++ decimal (c .args .n)) ++ closing) (c .args .at) (c .args .out .now)
-start c = let a = c .args in all-left ((a .word .now ++ decimal (a .n)) ++ closing) (a .at) (a .out .now) (c .pre)
+start c = let a = c .args in all-left (a .at) (a .out .now) refl (c .pre)
 
 abbrev s1 : tie.After-put-numbered → tie.Start
 s1 c = c .before .before .before .before
