@@ -1,6 +1,4 @@
 // The command that the arguments are.
-ghost use Prim.Native.Nat.{_≤_};
-ghost use lib.ListN.{length};
 
 fn main() {
     let mut line = io::large_buffer();
