@@ -5,10 +5,12 @@ use native.Mathlib.Numerals.{add-one, add-two, add-three}
 use native.Mathlib.Omega.{arith}
 use mathlib.Core.Path.{_≡_, sym, ap, _∙_}
 use mathlib.Core.List.{List, [], _∷_, _++_}
-use lib.ListN.{length, take, drop, set, length-append}
+use lib.ListN.{length, getD, take, drop, set, length-append}
 use lib.Seq.{sets, sets-eq, length-sets, length-take-le, take-at, drop-at}
 use borrow.Author.Tests.{le-leb, lt-leb}
-use Rattle.circuit.specs.Gates.{putAt}
+use Rattle.circuit.specs.declared.Gate.{Gate}
+use Rattle.circuit.specs.declared.Gate.the-variants.{Cnot, Phase}
+use Rattle.circuit.specs.Gates.{gateBytes, putAt}
 use Rattle.circuit.specs.File.{headerBytes}
 
 pub put-fits : (bs : List ℕ) (at : ℕ) (out : List ℕ) → at + length bs ≤ length out → putAt bs at out ≡ take at out ++ bs ++ drop (at + length bs) out
@@ -54,6 +56,11 @@ drop-put bs at out h =
 pub four-stored : (out : List ℕ) (at a b c d : ℕ) → at + 4 ≤ length out
     → set (set (set (set out at a) (at + 1) b) (at + 2) c) (at + 3) d ≡ putAt (a ∷ b ∷ c ∷ d ∷ []) at out
 four-stored out at a b c d h = simp (add-one, add-two, add-three) (sym (put-sets (a ∷ b ∷ c ∷ d ∷ []) at out h))
+
+-- a gate's bytes, read one by one
+pub four-read : (g : Gate) (bs : List ℕ) → bs ≡ gateBytes g → getD bs 0 0 ∷ getD bs 1 0 ∷ getD bs 2 0 ∷ getD bs 3 0 ∷ [] ≡ gateBytes g
+four-read (Cnot c t) bs e = rw e
+four-read (Phase i a) bs e = rw e
 
 -- the header in two fours
 pub header-stored : (w g : ℕ) (out half whole : List ℕ) → 8 ≤ length out → half ≡ putAt (0x50 ∷ 0x48 ∷ 0x47 ∷ 0 ∷ []) 0 out → whole ≡ putAt (1 ∷ w ∷ g / 256 ∷ g % 256 ∷ []) 4 half

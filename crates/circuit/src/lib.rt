@@ -11,6 +11,7 @@ pub use decoder::gate_of;
 pub use good::pack;
 pub use reader::gate_at;
 pub use reader::read;
+pub use writer::gate_bytes;
 pub use writer::put_gate;
 pub use writer::put_header;
 

@@ -21,16 +21,22 @@ fn put_four(out: &mut [u8], at: usize, a: u8, b: u8, c: u8, d: u8)
     out[at + 3] = d;
 }
 
+// A gate's four bytes.
+pub fn gate_bytes(gate: Gate) -> [u8; 4]
+    ensures { λ r. ⌜ r ≡ gateBytes gate ⌝ }
+{
+    match gate {
+        Gate::Cnot { control, target } => [1, control, target, 0],
+        Gate::Phase { wire, angle } => [2, wire, (angle / 256) as u8, (angle % 256) as u8],
+    }
+}
+
 // A gate's four bytes at `at`; where they do not all fit, nothing is written.
 pub fn put_gate(gate: Gate, out: &mut [u8], at: usize)
     ensures { λ _. ⌜ now (out .exit) ≡ putAt (gateBytes gate) at (now (out .entry)) ⌝ }
 {
-    match gate {
-        Gate::Cnot { control, target } => put_four(out, at, 1, control, target, 0),
-        Gate::Phase { wire, angle } => {
-            put_four(out, at, 2, wire, (angle / 256) as u8, (angle % 256) as u8)
-        }
-    }
+    let bytes = gate_bytes(gate);
+    put_four(out, at, bytes[0], bytes[1], bytes[2], bytes[3])
 }
 
 // A file's header at the front; where it does not fit, nothing is written.

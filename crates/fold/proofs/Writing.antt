@@ -1,5 +1,5 @@
 -- The loop that writes: what the pass still leaves of the rest, put behind what is written, is the whole.
-use Prim.Native.Nat.{ℕ, suc, _+_, _%_, _<_, _≤_}
+use Prim.Native.Nat.{ℕ, suc, _+_, _*_, _%_, _<_, _≤_}
 use native.Mathlib.Nat.{add-zero}
 use native.Mathlib.Numerals.{add-one}
 use native.Mathlib.Decide.{ℕ-discrete, decLt}
@@ -14,11 +14,11 @@ use Rattle.circuit.specs.declared.Gate.the-variants.{Cnot, Phase}
 use Rattle.circuit.specs.Gates.{gateBytes, bytesOf, putAt, Sound}
 use Rattle.circuit.specs.File.{wiresOf, countOf, gatesOf, fileChecks}
 use Rattle.running.specs.Masks.{ownMasks, firstMasks, masksAfter, met, modulo}
-use Rattle.circuit.proofs.Decoding.{Bytes, bytes-append, sound-wider}
+use Rattle.circuit.proofs.Decoding.{Bytes, bytes-append, length-bytes, sound-wider}
 use Rattle.circuit.proofs.Files.{good-file, file-sound, gates-end}
 use Rattle.running.proofs.Masks.{MasksBelow, first-alike, first-below, after-below}
 use Rattle.running.proofs.Stepping.{modulo-sound}
-use Rattle.circuit.proofs.Writing.{put-fits, put-put, length-put}
+use Rattle.circuit.proofs.Writing.{put-fits, put-put, length-put, four-stored, four-read}
 use Rattle.fold.specs.Fold.{groupTotal, folded}
 use Rattle.fold.specs.Totals.{Totals, takenFrom, found, left, leaves}
 use Rattle.fold.specs.declared.writer.Left.{Left}
@@ -67,17 +67,16 @@ module _ (l : Left) (at : ℕ) (out : List ℕ) where
   unfolding bytesOf
   goes e h = rw e (sym (add-zero at), sym (put-none at out h))
 
-  pub stays : (g : Gate) (out′ : List ℕ) → l ≡ Stays g → out′ ≡ putAt (gateBytes g) at out → (at + 4 ≡ at + length (bytesOf (leaves l))) × (out′ ≡ putAt (bytesOf (leaves l)) at out)
-  unfolding bytesOf
-  stays g out′ e p = let d = one g in rw e (four g ∙ ap (λ (bs : List ℕ). at + length bs) d, p ∙ ap (λ (bs : List ℕ). putAt bs at out) d)
-    where
-      one : (g : Gate) → gateBytes g ≡ bytesOf (g ∷ [])
-      one (Cnot c t) = refl
-      one (Phase i a) = refl
+  module _ (g : Gate) (e : l ≡ Stays g) where
+    pub four-left : length (bytesOf (leaves l)) ≡ 4
+    four-left = length-bytes (leaves l) ∙ ap (λ (k : Left). 4 * length (leaves k)) e
 
-      four : (g : Gate) → at + 4 ≡ at + length (gateBytes g)
-      four (Cnot c t) = refl
-      four (Phase i a) = refl
+    pub stays : (bs : List ℕ) → bs ≡ gateBytes g → at + 4 ≤ length out
+        → (at + 4 ≡ at + length (bytesOf (leaves l))) × (set (set (set (set out at (getD bs 0 0)) (at + 1) (getD bs 1 0)) (at + 2) (getD bs 2 0)) (at + 3) (getD bs 3 0) ≡ putAt (bytesOf (leaves l)) at out)
+    unfolding bytesOf
+    stays bs p h =
+        let one : gateBytes g ≡ bytesOf (leaves l) = rw e (sym (append-nil (gateBytes g))) in
+        (sym (ap (at +_) four-left), four-stored out at (getD bs 0 0) (getD bs 1 0) (getD bs 2 0) (getD bs 3 0) h ∙ ap (λ (b : List ℕ). putAt b at out) (four-read g bs p ∙ one))
 
 module _ (f : List ℕ) (bytes : Bytes f) (passes : outcome (fileChecks 0 f) ≡ allPassed) where
   pub writing-starts : (masks totals out : List ℕ) → masks ≡ firstMasks → Totals f totals → 8 + length (bytesOf (folded (wiresOf f) (gatesOf f))) ≤ length out
@@ -102,46 +101,52 @@ module _ (f : List ℕ) (bytes : Bytes f) (passes : outcome (fileChecks 0 f) ≡
       let l : at ≤ length out = omega (arith, r .fits) in
       sym (put-none at out l) ∙ ap (λ (gs : List Gate). putAt (bytesOf gs) at out) (sym e) ∙ r .writes
 
-module _ (f goal : List ℕ) (i : ℕ) (masks totals out : List ℕ) (at : ℕ) (r : Writing f goal masks totals out at i) where
-  pub room-left : at ≤ length out
-  room-left = omega (arith, r .fits)
+-- what is left of the gate at i: it fits, and behind it the loop goes on
+pub record Leaving (f goal out : List ℕ) (at i : ℕ) (l : List Gate) (masks totals : List ℕ) : Type 0 where
+  pub room : at + length (bytesOf l) ≤ length out
+  pub goes-on : (out′ : List ℕ) (at′ : ℕ) → out′ ≡ putAt (bytesOf l) at out → at′ ≡ at + length (bytesOf l) → Writing f goal masks totals out′ at′ (i + 1)
 
-  module _ (g : Gate) (l : List Gate) (masks′ totals′ : List ℕ)
-      (d : drop i (gatesOf f) ≡ g ∷ drop (suc i) (gatesOf f)) (sound : Sound (wiresOf f) g) (few : wiresOf f ≤ 10)
-      (p′ : masks′ ≡ masksAfter (modulo g) masks) (q′ : totals′ ≡ takenFrom (met (modulo g) masks) totals) (e′ : l ≡ left (found (met (modulo g) masks) totals) g) where
-    same : modulo g ≡ g
-    same = modulo-sound g (sound-wider (wiresOf f) 16 g (omega arith) sound)
+module _ (f goal : List ℕ) (i : ℕ) (masks totals out : List ℕ) (at : ℕ) (r : Writing f goal masks totals out at i) (g : Gate) (l : List Gate) (masks′ totals′ : List ℕ)
+    (d : drop i (gatesOf f) ≡ g ∷ drop (suc i) (gatesOf f)) (sound : Sound (wiresOf f) g) (few : wiresOf f ≤ 10)
+    (p′ : masks′ ≡ masksAfter (modulo g) masks) (q′ : totals′ ≡ takenFrom (met (modulo g) masks) totals) (e′ : l ≡ left (found (met (modulo g) masks) totals) g) where
+  same : modulo g ≡ g
+  same = modulo-sound g (sound-wider (wiresOf f) 16 g (omega arith) sound)
 
-    p : masks′ ≡ masksAfter g masks
-    p = p′ ∙ ap (λ (h : Gate). masksAfter h masks) same
+  p : masks′ ≡ masksAfter g masks
+  p = p′ ∙ ap (λ (h : Gate). masksAfter h masks) same
 
-    q : totals′ ≡ takenFrom (met g masks) totals
-    q = q′ ∙ ap (λ (h : Gate). takenFrom (met h masks) totals) same
+  q : totals′ ≡ takenFrom (met g masks) totals
+  q = q′ ∙ ap (λ (h : Gate). takenFrom (met h masks) totals) same
 
-    e : l ≡ left (found (met g masks) totals) g
-    e = e′ ∙ ap (λ (h : Gate). left (found (met h masks) totals) g) same
+  e : l ≡ left (found (met g masks) totals) g
+  e = e′ ∙ ap (λ (h : Gate). left (found (met h masks) totals) g) same
 
-    split : rest f masks totals i ≡ l ++ rest f masks′ totals′ (suc i)
-    split =
-        ap (λ (gs : List Gate). passed (entry totals) gs masks) d ∙ passed-cons (entry totals) g (drop (suc i) (gatesOf f)) masks
-        ∙ ap₂ _++_ (ap (λ (t : ℕ). left t g) (sym (found-entry totals masks (r .below) g)) ∙ sym e)
-        (ap₂ (λ (T : ℕ → ℕ) (ms : List ℕ). passed T (drop (suc i) (gatesOf f)) ms) (sym (taken-entry totals masks (r .below) g) ∙ ap entry (sym q)) (sym p))
+  split : rest f masks totals i ≡ l ++ rest f masks′ totals′ (suc i)
+  split =
+      ap (λ (gs : List Gate). passed (entry totals) gs masks) d ∙ passed-cons (entry totals) g (drop (suc i) (gatesOf f)) masks
+      ∙ ap₂ _++_ (ap (λ (t : ℕ). left t g) (sym (found-entry totals masks (r .below) g)) ∙ sym e)
+      (ap₂ (λ (T : ℕ → ℕ) (ms : List ℕ). passed T (drop (suc i) (gatesOf f)) ms) (sym (taken-entry totals masks (r .below) g) ∙ ap entry (sym q)) (sym p))
 
-    parts : bytesOf (rest f masks totals i) ≡ bytesOf l ++ bytesOf (rest f masks′ totals′ (suc i))
-    parts = ap bytesOf split ∙ bytes-append l (rest f masks′ totals′ (suc i))
+  parts : bytesOf (rest f masks totals i) ≡ bytesOf l ++ bytesOf (rest f masks′ totals′ (suc i))
+  parts = ap bytesOf split ∙ bytes-append l (rest f masks′ totals′ (suc i))
 
-    long : length (bytesOf (rest f masks totals i)) ≡ length (bytesOf l) + length (bytesOf (rest f masks′ totals′ (suc i)))
-    long = ap length parts ∙ length-append (bytesOf l) (bytesOf (rest f masks′ totals′ (suc i)))
+  long : length (bytesOf (rest f masks totals i)) ≡ length (bytesOf l) + length (bytesOf (rest f masks′ totals′ (suc i)))
+  long = ap length parts ∙ length-append (bytesOf l) (bytesOf (rest f masks′ totals′ (suc i)))
 
-    pub writing-goes-on : (out′ : List ℕ) (at′ : ℕ) → out′ ≡ putAt (bytesOf l) at out → at′ ≡ at + length (bytesOf l) → Writing f goal masks′ totals′ out′ at′ (i + 1)
-    writing-goes-on out′ at′ s t =
-        let w : at + length (bytesOf l) ≤ length out = omega (arith, r .fits, long) in
-        let k : length out′ ≡ length out = ap length s ∙ length-put (bytesOf l) at out w in
-        rw (add-one i)
-        (record {
-          below = λ j. rw p (after-below 10 g masks (r .below) j);
-          fits = omega (arith, r .fits, long);
-          writes = ap₂ (λ (a : ℕ) (o : List ℕ). putAt (bytesOf (rest f masks′ totals′ (suc i))) a o) t s
-              ∙ put-put (bytesOf l) (bytesOf (rest f masks′ totals′ (suc i))) at out (rw (length-append (bytesOf l) (bytesOf (rest f masks′ totals′ (suc i)))) (omega (arith, r .fits, long)))
-              ∙ ap (λ (bs : List ℕ). putAt bs at out) (sym parts) ∙ r .writes;
-        })
+  fits-here : at + length (bytesOf l) ≤ length out
+  fits-here = omega (arith, r .fits, long)
+
+  writing-goes-on : (out′ : List ℕ) (at′ : ℕ) → out′ ≡ putAt (bytesOf l) at out → at′ ≡ at + length (bytesOf l) → Writing f goal masks′ totals′ out′ at′ (i + 1)
+  writing-goes-on out′ at′ s t =
+      let k : length out′ ≡ length out = ap length s ∙ length-put (bytesOf l) at out fits-here in
+      rw (add-one i)
+      (record {
+        below = λ j. rw p (after-below 10 g masks (r .below) j);
+        fits = omega (arith, r .fits, long);
+        writes = ap₂ (λ (a : ℕ) (o : List ℕ). putAt (bytesOf (rest f masks′ totals′ (suc i))) a o) t s
+            ∙ put-put (bytesOf l) (bytesOf (rest f masks′ totals′ (suc i))) at out (rw (length-append (bytesOf l) (bytesOf (rest f masks′ totals′ (suc i)))) (omega (arith, r .fits, long)))
+            ∙ ap (λ (bs : List ℕ). putAt bs at out) (sym parts) ∙ r .writes;
+      })
+
+  pub gate-left : Leaving f goal out at i l masks′ totals′
+  gate-left = record { room = fits-here; goes-on = writing-goes-on }

@@ -57,14 +57,18 @@ fn fold_gate(gate: Gate, masks: &mut [u16; 16], totals: &mut [u16; 1024]) -> Lef
 
 // Writes what is left of a gate at `at`, and answers the place behind it.
 fn put_left(left: Left, out: &mut [u8], at: usize) -> usize
-    requires { ⌜ at ≤ length (now out) ⌝ }
+    requires { ⌜ at + length (bytesOf (leaves left)) ≤ length (now out) ⌝ }
     ensures { λ r. ⌜ r ≡ at + length (bytesOf (leaves left)) ⌝ }
     ensures { λ r. ⌜ now (out .exit) ≡ putAt (bytesOf (leaves left)) at (now (out .entry)) ⌝ }
 {
     match left {
         Left::Goes => at,
         Left::Stays(gate) => {
-            circuit::put_gate(gate, out, at);
+            let bytes = circuit::gate_bytes(gate);
+            out[at] = bytes[0];
+            out[at + 1] = bytes[1];
+            out[at + 2] = bytes[2];
+            out[at + 3] = bytes[3];
             at + 4
         }
     }

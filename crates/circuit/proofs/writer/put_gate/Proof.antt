@@ -1,57 +1,49 @@
-use mathlib.Core.Path.{sym, ap, _∙_}
-use Rattle.circuit.specs.Gates.{gateBytes, putAt}
-use Rattle.circuit.specs.declared.Gate.{Gate}
+use mathlib.Core.Path.{ap, _∙_}
+use mathlib.Core.List.{List}
+use Prim.Native.Nat.{ℕ}
+use Rattle.circuit.specs.Gates.{putAt}
+use Rattle.circuit.proofs.Writing.{four-read}
 use borrow.Author.Needs.{needs}
 use Rattle.circuit.proofs.writer.put_gate.Statement.{statement}
 use Rattle.circuit.proofs.writer.put_gate.Tie as tie
 
-enum-known-gate : tie.Need-enum-known-gate
-enum-known-gate c = search needs
+gate-bytes-requires : tie.Need-gate-bytes-requires
+gate-bytes-requires c κs = search needs
+
+array-read-put-four : tie.Need-array-read-put-four
+array-read-put-four c = search needs
+
+array-read-put-four-2 : tie.Need-array-read-put-four-2
+array-read-put-four-2 c = search needs
+
+array-read-put-four-3 : tie.Need-array-read-put-four-3
+array-read-put-four-3 c = search needs
+
+array-read-put-four-4 : tie.Need-array-read-put-four-4
+array-read-put-four-4 c = search needs
 
 put-four-requires : tie.Need-put-four-requires
 put-four-requires c κs = search needs
-
-enum-known-gate-2 : tie.Need-enum-known-gate-2
-enum-known-gate-2 c = search needs
-
-cast-put-four : tie.Need-cast-put-four
-cast-put-four c = search needs
-
-cast-put-four-2 : tie.Need-cast-put-four-2
-cast-put-four-2 c = search needs
-
-put-four-requires-2 : tie.Need-put-four-requires-2
-put-four-requires-2 c κs = search needs
 
 same-length : tie.Need-same-length
 same-length c = search needs
 
 returns : tie.Need-returns
 returns c =
-    let k = c .before .before in
-    let a = k .before .before .before .before .before .before .args in
-    k .put-four .ensures ∙ ap (λ (g : Gate). putAt (gateBytes g) (a .at) (a .out .now)) (sym (k .before .before .before .gate .given .1))
-
-same-length-2 : tie.Need-same-length-2
-same-length-2 c = search needs
-
-returns-2 : tie.Need-returns-2
-returns-2 c =
-    let k = c .before .before in
-    let a = k .before .before .before .before .before .before .args in
-    k .put-four2 .ensures ∙ ap (λ (g : Gate). putAt (gateBytes g) (a .at) (a .out .now)) (sym (k .before .before .before .gate2 .given .1))
+    let put = c .before .before in
+    let got = put .before .before in
+    let a = got .before .before .args in
+    put .put-four .ensures ∙ ap (λ (bs : List ℕ). putAt bs (a .at) (a .out .now)) (four-read (a .gate) (got .gate-bytes .result) (got .gate-bytes .ensures))
 
 pub put-gate-spec : {M : Type 1} → statement M
 put-gate-spec =
     tie.close
     (tie.spec
-    enum-known-gate
+    gate-bytes-requires
+    array-read-put-four
+    array-read-put-four-2
+    array-read-put-four-3
+    array-read-put-four-4
     put-four-requires
-    enum-known-gate-2
-    cast-put-four
-    cast-put-four-2
-    put-four-requires-2
     same-length
-    returns
-    same-length-2
-    returns-2)
+    returns)

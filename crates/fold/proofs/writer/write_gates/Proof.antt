@@ -9,7 +9,7 @@ use Rattle.circuit.specs.File.{wiresOf, gatesOf}
 use Rattle.circuit.proofs.Files.{GoodFile, good-file, gate-said, saidAt}
 use Rattle.fold.specs.Fold.{folded}
 use Rattle.fold.specs.Totals.{leaves}
-use Rattle.fold.proofs.Writing.{Writing, writing-starts, room-left, writing-goes-on, writing-ends}
+use Rattle.fold.proofs.Writing.{Writing, Leaving, writing-starts, gate-left, writing-ends}
 use Rattle.fold.proofs.writer.write_gates.Statement.{statement}
 use Rattle.fold.proofs.writer.write_gates.Tie as tie
 
@@ -70,10 +70,24 @@ gate-of-requires c κs = search needs
 fold-gate-requires : tie.Need-fold-gate-requires Inv-loop μ-loop
 fold-gate-requires c κs = search needs
 
+-- what is left of the gate at hand
+at-hand : (c : tie.After-fold-gate Inv-loop μ-loop) →
+    let at = c .before .before .before .before .before .before .before .before .before in
+    let a = at .before .before .before .before .args in
+    Leaving (a .file .now) (goal (a .file .now) (a .out .now)) (at .loop .out) (at .loop .at) (at .loop .i) (leaves (c .fold-gate .result)) (c .fold-gate .last .1 .0) (c .fold-gate .last .1 .1 .0)
+at-hand c =
+    let said = c .before .before .before in
+    let turn = said .before .before .before .before .before in
+    let at = turn .before in
+    let a = at .before .before .before .before .args in
+    let f = a .file .now in
+    let g = file-of turn in
+    let d = gate-said f (λ j. at .before .before .before .shared-slice-known .given j .fits) g (at .loop .i) (omega arith) in
+    let same : said .gate-of .result ≡ saidAt f (at .loop .i) = said .gate-of .ensures in
+    gate-left f (goal f (a .out .now)) (at .loop .i) (at .loop .masks) (at .loop .totals) (at .loop .out) (at .loop .at) (at .loop .inv .2) (said .gate-of .result) (leaves (c .fold-gate .result)) (c .fold-gate .last .1 .0) (c .fold-gate .last .1 .1 .0) (rw same (d .0)) (rw same (d .1)) (g .few) (c .fold-gate .ensures .0) (c .fold-gate .ensures .1 .0) (c .fold-gate .ensures .1 .1)
+
 put-left-requires : tie.Need-put-left-requires Inv-loop μ-loop
-put-left-requires c κs =
-    let at = c .before .before .before .before .before .before .before .before .before .before in
-    room-left (at .before .before .before .before .args .file .now) _ (at .loop .i) (at .loop .masks) (at .loop .totals) (at .loop .out) (at .loop .at) (at .loop .inv .2)
+put-left-requires c κs = at-hand (c .before) .room
 
 add-i : tie.Need-add-i Inv-loop μ-loop
 add-i c = omega arith
@@ -85,16 +99,8 @@ loop-again : tie.Need-loop-again Inv-loop μ-loop
 loop-again c =
     let put = c .before .before in
     let left = put .before .before in
-    let said = left .before .before .before in
-    let turn = said .before .before .before .before .before in
-    let at = turn .before in
-    let start = at .before .before .before .before in
-    let a = start .args in
-    let f = a .file .now in
-    let g = file-of turn in
-    let d = gate-said f (λ j. at .before .before .before .shared-slice-known .given j .fits) g (at .loop .i) (omega arith) in
-    let same : said .gate-of .result ≡ saidAt f (at .loop .i) = said .gate-of .ensures in
-    (omega arith, put .put-left .kept .1 .0 ∙ at .loop .inv .1, writing-goes-on f (goal f (a .out .now)) (at .loop .i) (at .loop .masks) (at .loop .totals) (at .loop .out) (at .loop .at) (at .loop .inv .2) (said .gate-of .result) (leaves (left .fold-gate .result)) (left .fold-gate .last .1 .0) (left .fold-gate .last .1 .1 .0) (rw same (d .0)) (rw same (d .1)) (g .few) (left .fold-gate .ensures .0) (left .fold-gate .ensures .1 .0) (left .fold-gate .ensures .1 .1) (put .put-left .last .1 .0) (put .put-left .result) (put .put-left .ensures .1) (put .put-left .ensures .0))
+    let turn = left .before .before .before .before .before .before .before .before in
+    (omega arith, put .put-left .kept .1 .0 ∙ turn .before .loop .inv .1, at-hand left .goes-on (put .put-left .last .1 .0) (put .put-left .result) (put .put-left .ensures .1) (put .put-left .ensures .0))
 
 same-length : tie.Need-same-length Inv-loop μ-loop
 same-length c = c .before .loop .inv .1

@@ -1,0 +1,27 @@
+use mathlib.Core.Path.{sym, ap}
+use Rattle.circuit.specs.Gates.{gateBytes}
+use borrow.Author.Needs.{needs}
+use Rattle.circuit.proofs.writer.gate_bytes.Statement.{statement}
+use Rattle.circuit.proofs.writer.gate_bytes.Tie as tie
+
+enum-known-gate : tie.Need-enum-known-gate
+enum-known-gate c = search needs
+
+enum-known-gate-2 : tie.Need-enum-known-gate-2
+enum-known-gate-2 c = search needs
+
+cast-t8 : tie.Need-cast-t8
+cast-t8 c = search needs
+
+cast-t10 : tie.Need-cast-t10
+cast-t10 c = search needs
+
+returns : tie.Need-returns
+returns c = sym (ap gateBytes (c .before .gate .given .1))
+
+returns-2 : tie.Need-returns-2
+returns-2 c = sym (ap gateBytes (c .before .gate2 .given .1))
+
+pub gate-bytes-spec : {M : Type 1} → statement M
+gate-bytes-spec =
+    tie.close (tie.spec enum-known-gate enum-known-gate-2 cast-t8 cast-t10 returns returns-2)
