@@ -58,7 +58,7 @@ module _ (f : List ℕ) (bytes : Bytes f) (passes : outcome (fileChecks 0 f) ≡
   last h = gates-end f bytes good i h
 
   pub run-goes-on : (start state phase x turn state′ : ℕ) → i < countOf f → x ≡ word
-      → turn ≡ (held x state - turned x state) * (x / 65536 % 256 * 256 + x / 16777216) → turn ≤ 65535 → state′ ≡ bitXor state (turned x state * 2 ^ (x / 65536 % 32))
+      → turn ≡ held x state * (1 - x % 2) * (x / 65536 % 256 * 256 + x / 16777216) → turn ≤ 65535 → state′ ≡ bitXor state (turned x state * 2 ^ (x / 65536 % 32))
       → Running f start state phase i → Running f start state′ (phase + turn) (i + 1)
   run-goes-on start state phase x turn state′ h e t l s r =
       let at = 8 + 4 * i in

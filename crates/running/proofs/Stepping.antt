@@ -1,6 +1,6 @@
 -- One gate, as the code does it: the state, the phase and the counts from its packed bytes, and the masks.
 use Prim.Native.Nat.{ℕ, zero, suc, _+_, _-_, _*_, _/_, _%_, _^_, _<_, _≤_}
-use native.Mathlib.Nat.{mul-one, mul-zero, zero-mul, sub-zero, mul-comm, mod-eq-of-lt}
+use native.Mathlib.Nat.{mul-one, mul-zero, zero-mul, mul-comm, mod-eq-of-lt}
 use native.Mathlib.Decide.{ℕ-discrete}
 use native.Mathlib.Omega.{arith}
 use mathlib.Core.Path.{_≡_, refl, sym, ap, ap₂, subst, _∙_}
@@ -17,17 +17,11 @@ use Rattle.running.proofs.Runs.{weight-below}
 use Rattle.running.specs.Run.{stepped, added, nonzero, cnots, score}
 use Rattle.running.specs.Masks.{Mask, masksAfter, met, addMet, modulo}
 
--- 0 or 1 times an angle
-pub once : (b n : ℕ) → b ≤ 1 → n ≤ 65535 → b * n ≤ 65535
-once zero n h k = omega arith
-once (suc zero) n h k = omega arith
-once (suc (suc b)) n h k = absurd (omega arith)
-
--- a bit and its product with another
-pub bit-apart : (b f h o : ℕ) → b ≡ h → f ≡ h * o → h < 2 → o < 2 → (f ≤ b) × (f < 2) × (b - f ≤ 1)
-bit-apart b f h zero p q l k = (omega arith, omega arith, omega arith)
-bit-apart b f h (suc zero) p q l k = (omega arith, omega arith, omega arith)
-bit-apart b f h (suc (suc o)) p q l k = absurd (omega arith)
+-- 0 or 1 times a number
+pub once : (b n k : ℕ) → b ≤ 1 → n ≤ k → b * n ≤ k
+once zero n k h l = omega arith
+once (suc zero) n k h l = omega arith
+once (suc (suc b)) n k h l = absurd (omega arith)
 
 -- a bit shifted below the number's width
 pub bit-shifted : (s f h t : ℕ) → f ≡ h → f < 2 → t < 32 → bitXor s (f * 2 ^ t % 4294967296) ≡ bitXor s (h * 2 ^ t)
@@ -80,11 +74,11 @@ module _ (k a b c : ℕ) (hk : k < 256) (ha : a < 256) (hb : b < 256) (hc : c < 
       let even : x % 2 ≡ 0 = omega arith in
       rw (even, mul-zero (held x s), zero-mul (2 ^ (x / 65536 % 32))) (xor-zero-r s)
 
-  pub packed-turns : (g : Gate) (s : ℕ) → gateBytes g ≡ k ∷ a ∷ b ∷ c ∷ [] → Sound 16 g → (held x s - turned x s) * (x / 65536 % 256 * 256 + x / 16777216) ≡ added g s
+  pub packed-turns : (g : Gate) (s : ℕ) → gateBytes g ≡ k ∷ a ∷ b ∷ c ∷ [] → Sound 16 g → held x s * (1 - x % 2) * (x / 65536 % 256 * 256 + x / 16777216) ≡ added g s
   packed-turns (Cnot i t) s e h =
       let k1 : 1 ≡ k = cc e in
       let odd : x % 2 ≡ 1 = omega arith in
-      let none : held x s - turned x s ≡ 0 = rw (odd, mul-one (held x s)) (omega arith) in
+      let none : held x s * (1 - x % 2) ≡ 0 = rw odd (mul-zero (held x s)) in
       rw none (zero-mul (x / 65536 % 256 * 256 + x / 16777216))
   packed-turns (Phase i n) s e h =
       let k2 : 2 ≡ k = cc e in
@@ -94,7 +88,7 @@ module _ (k a b c : ℕ) (hk : k < 256) (ha : a < 256) (hb : b < 256) (hc : c < 
       let even : x % 2 ≡ 0 = omega arith in
       let wire : x / 256 % 32 ≡ i = wire-bits k a b c hk ha hb hc ∙ omega (arith, h .0) in
       let angle : x / 65536 % 256 * 256 + x / 16777216 ≡ n = angle-bytes k a b c hk ha hb hc ∙ omega arith in
-      rw (even, wire, angle, mul-zero (bit s i), sub-zero (bit s i)) (mul-comm (bit s i) n)
+      rw (even, wire, angle, mul-one (bit s i)) (mul-comm (bit s i) n)
 
   pub packed-cnots : (g : Gate) → gateBytes g ≡ k ∷ a ∷ b ∷ c ∷ [] → x % 2 ≡ cnots (g ∷ [])
   unfolding cnots

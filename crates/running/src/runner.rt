@@ -37,9 +37,9 @@ fn step(x: u32, state: u32) -> u32
 
 // What a gate adds to the phase.
 fn turn(x: u32, state: u32) -> u32
-    ensures { λ r. ⌜ (r ≡ (bit state (x / 256 % 32) - bit state (x / 256 % 32) * (x % 2)) * (x / 65536 % 256 * 256 + x / 16777216)) × (r ≤ 65535) ⌝ }
+    ensures { λ r. ⌜ (r ≡ bit state (x / 256 % 32) * (1 - x % 2) * (x / 65536 % 256 * 256 + x / 16777216)) × (r ≤ 65535) ⌝ }
 {
-    (bit_of(x, state) - flip(x, state)) * (x / 65536 % 256 * 256 + x / 16777216)
+    bit_of(x, state) * (1 - x % 2) * (x / 65536 % 256 * 256 + x / 16777216)
 }
 
 // The run of a good file's gates.

@@ -1,7 +1,7 @@
 use native.Mathlib.Omega.{arith}
-use mathlib.Core.Path.{refl, ap}
+use mathlib.Core.Path.{ap}
 use Prim.Native.Nat.{_*_, _%_}
-use Rattle.running.proofs.Stepping.{bit-apart}
+use Rattle.running.proofs.Stepping.{once}
 use borrow.Author.Needs.{needs}
 use Rattle.running.proofs.runner.flip.Statement.{statement}
 use Rattle.running.proofs.runner.flip.Tie as tie
@@ -11,10 +11,8 @@ bit-of-requires c κs = search needs
 
 mul-result : tie.Need-mul-result
 mul-result c =
-    let a = c .before .args in
-    let b = c .bit-of .result in
-    let l = bit-apart b (b * (a .x % 2)) b (a .x % 2) refl refl (omega (arith, c .bit-of .ensures)) (omega arith) in
-    omega (arith, l .1)
+    let l = once (c .bit-of .result) (c .before .args .x % 2) 1 (omega (arith, c .bit-of .ensures)) (omega arith) in
+    omega arith
 
 returns : tie.Need-returns
 returns c = ap (_* (c .before .args .x % 2)) (c .bit-of .ensures)
