@@ -1,13 +1,12 @@
 -- Rows of eight entries: written one by one, and gathered without halves.
-use Prim.Native.Nat.{ℕ, zero, suc, _+_, _%_, _^_, _<_}
+use Prim.Native.Nat.{ℕ, _+_, _%_, _<_}
 use native.Mathlib.Nat.{mod-eq-of-lt}
 use native.Mathlib.Omega.{arith}
-use mathlib.Core.Path.{_≡_, refl, sym, ap, ap₂, _∙_}
+use mathlib.Core.Path.{_≡_, refl, sym, ap, _∙_}
 use mathlib.Core.Bool.{Bool, true, false}
 use mathlib.Core.List.{List, [], _∷_}
 use lib.ListN.{length}
 use lib.Seq.{sets}
-use lib.Pow.{pow-pos}
 use Rattle.numbers.specs.Bits.{subset}
 use Rattle.numbers.specs.Sums.{list}
 use Rattle.numbers.proofs.Lists.{is-list}
@@ -41,16 +40,9 @@ turned-down : (v : List ℕ) → turned (gathered true 3 (turned v)) ≡ gathere
 unfolding gathered subset
 turned-down v = by-entries (omega arith) (omega arith) (omega arith) (omega arith) (omega arith) (omega arith) (omega arith) (ap (_% 65536) (omega arith))
 
-three : (n : ℕ) → 8 ≡ 2 ^ n → n ≡ 3
-three zero e = absurd (omega arith)
-three (suc zero) e = absurd (omega arith)
-three (suc (suc zero)) e = absurd (omega arith)
-three (suc (suc (suc zero))) e = refl
-three (suc (suc (suc (suc n)))) e = absurd (omega (arith, pow-pos n))
-
 module _ (v u : List ℕ) (up : Bool) (long : length v ≡ 8) where
-  pub eight-up : up ≡ true → u ≡ gathered true 3 (list 8 (entry v)) → (n : ℕ) → length v ≡ 2 ^ n → u ≡ gathered up n v
-  eight-up b e n l = e ∙ ap (gathered true 3) (sym (one-by-one v long)) ∙ ap₂ (λ (t : Bool) (k : ℕ). gathered t k v) (sym b) (sym (three n (sym long ∙ l)))
+  pub eight-up : up ≡ true → u ≡ gathered true 3 (list 8 (entry v)) → u ≡ gathered up 3 v
+  eight-up b e = e ∙ ap (gathered true 3) (sym (one-by-one v long)) ∙ ap (λ (t : Bool). gathered t 3 v) (sym b)
 
-  pub eight-down : up ≡ false → (r : List ℕ) → r ≡ gathered true 3 (turned v) → u ≡ turned r → (n : ℕ) → length v ≡ 2 ^ n → u ≡ gathered up n v
-  eight-down b r q e n l = e ∙ ap turned q ∙ turned-down v ∙ ap₂ (λ (t : Bool) (k : ℕ). gathered t k v) (sym b) (sym (three n (sym long ∙ l)))
+  pub eight-down : up ≡ false → (r : List ℕ) → r ≡ gathered true 3 (turned v) → u ≡ turned r → u ≡ gathered up 3 v
+  eight-down b r q e = e ∙ ap turned q ∙ turned-down v ∙ ap (λ (t : Bool). gathered t 3 v) (sym b)

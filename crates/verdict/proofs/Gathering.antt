@@ -1,20 +1,17 @@
--- Sums over the sets above or below, by halves; and what a call on a row of 2^n entries has after its calls on the two halves.
-use Prim.Native.Nat.{ℕ, zero, suc, _+_, _-_, _*_, _/_, _%_, _^_, _<_, _≤_}
-use native.Mathlib.Nat.{add-mod, add-zero, zero-add, add-comm, zero-mul, one-mul, mod-eq-of-lt, two-pow-succ}
+-- Sums over the sets above or below, by halves.
+use Prim.Native.Nat.{ℕ, suc, _+_, _*_, _%_, _^_, _<_}
+use native.Mathlib.Nat.{add-mod, add-zero, zero-add, add-comm, zero-mul, two-pow-succ}
 use native.Mathlib.Omega.{arith}
 use mathlib.Core.Path.{_≡_, sym, ap, ap₂, _∙_}
 use mathlib.Core.Bool.{Bool, true, false}
 use mathlib.Core.List.{List, _++_}
-use lib.ListN.{length, take, drop, length-drop, List·getD-append}
-use lib.Seq.{length-take-le, getD-take, getD-drop, getD-append-add}
-use lib.Pow.{pow-pos}
-use borrow.Rule.Slice.PartMut.{putMid, same-len-mid}
+use lib.ListN.{length, take, drop, List·getD-append}
+use lib.Seq.{getD-take, getD-drop, getD-append-add}
 use Rattle.numbers.specs.Bits.{subset}
 use Rattle.numbers.specs.Sums.{sum, list}
 use Rattle.numbers.proofs.Sums.{sumOf-ext}
-use Rattle.numbers.proofs.Lists.{length-list, getD-list, is-list, list-ext, list-split}
-use Rattle.numbers.proofs.Parts.{second-part, both-parts, half-fits, row-long}
-use Rattle.numbers.proofs.Subsets.{subset-none, subset-low-high, subset-high-low, subset-high-high, sum-zero, sum-halves}
+use Rattle.numbers.proofs.Lists.{length-list, getD-list, list-ext, list-split}
+use Rattle.numbers.proofs.Subsets.{subset-low-high, subset-high-low, subset-high-high, sum-zero, sum-halves}
 use Rattle.verdict.specs.Working.{entry, counts, gathered, mixed}
 
 -- the sum at s, before it wraps
@@ -113,44 +110,3 @@ module _ (n : ℕ) (v : List ℕ) where
       (λ s h. first-half false n v s h ∙ sym (ap (_% 65536) (down-low n (entry v) s h)))
       (λ s h. ap (_% 65536) (add-comm (entry (halves false n v) (2 ^ n + s)) (entry (halves false n v) s)) ∙ ap₂ (λ (a b : ℕ). (a + b) % 65536) (first-half false n v s h) (second-half false n v s h)
       ∙ sym (ap (_% 65536) (down-high n (entry v) s h) ∙ add-mod (sumAround false n (entry v) s) (sumAround false n (upper n (entry v)) s) 65536))
-
--- a row of one entry is its own sum
-pub one-entry : (up : Bool) (v : List ℕ) → entry v 0 < 65536 → length v / 2 ≤ 0 → (n : ℕ) → length v ≡ 2 ^ n → v ≡ gathered up n v
-unfolding gathered
-one-entry up v b h (suc m) e = absurd (omega (arith, pow-pos m))
-one-entry up v b h zero e = is-list 0 v 1 (λ s. sumAround up 0 (entry v) s % 65536) e only
-  where
-    self : (up : Bool) → counts up 0 0 ≡ 1
-    self true = subset-none 0
-    self false = subset-none 0
-
-    only : (i : ℕ) → i < 1 → entry v i ≡ sumAround up 0 (entry v) i % 65536
-    only i l =
-        let z : i ≡ 0 = omega arith in
-        rw z (sym (ap (_% 65536) (zero-add (counts up 0 0 * entry v 0) ∙ ap (_* entry v 0) (self up) ∙ one-mul (entry v 0)) ∙ mod-eq-of-lt b))
-
-module _ (up : Bool) (v : List ℕ) (half : ℕ) (d : half ≡ length v / 2) (p : 0 < half) where
-  module _ (a : List ℕ) (la : length a ≡ length (take half v)) where
-    module _ (b : List ℕ) (lb : length b ≡ length (take (length (a ++ drop half v) - half) (drop half (a ++ drop half v)))) where
-      -- the row after both
-      abbrev joined : List ℕ
-      joined = putMid half (length (a ++ drop half v) - half) (a ++ drop half v) b
-
-      pub joined-long : length joined ≡ length v
-      joined-long = same-len-mid half (length (a ++ drop half v) - half) (a ++ drop half v) b lb ∙ row-long v half d p a la
-
-      -- and what adding the halves then gives
-      pub mix-gives : ((n : ℕ) → length (take half v) ≡ 2 ^ n → a ≡ gathered up n (take half v))
-          → ((n : ℕ) → length (take (length (a ++ drop half v) - half) (drop half (a ++ drop half v))) ≡ 2 ^ n
-          → b ≡ gathered up n (take (length (a ++ drop half v) - half) (drop half (a ++ drop half v))))
-          → (u : List ℕ) → (half + half ≡ length joined → u ≡ mixed up half joined) → (n : ℕ) → length v ≡ 2 ^ n → u ≡ gathered up n v
-      unfolding halves
-      mix-gives ea eb u e zero l = absurd (omega arith)
-      mix-gives ea eb u e (suc m) l =
-          let h : half ≡ 2 ^ m = omega arith in
-          let rest = second-part v a half (half-fits v half d p) la in
-          let j : joined ≡ halves up m v =
-          both-parts v a half (half-fits v half d p) la b
-          ∙ ap₂ _++_ (ea m (length-take-le half v (half-fits v half d p) ∙ h) ∙ ap (λ (k : ℕ). gathered up m (take k v)) h)
-          (eb m (ap length rest ∙ length-drop half v ∙ omega arith) ∙ ap (gathered up m) rest ∙ ap (λ (k : ℕ). gathered up m (drop k v)) h) in
-          e (let z : half + half ≡ length v = omega arith in z ∙ sym joined-long) ∙ ap₂ (mixed up) h j ∙ by-halves m v up

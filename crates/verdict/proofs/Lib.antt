@@ -8,6 +8,7 @@ mod Weighing
 mod Ends
 mod Adding
 mod Gathering
+mod Blocks
 mod Eights
 pub mod Summaries
 mod Settling

@@ -7,7 +7,7 @@ use mathlib.Core.List.{List, _++_}
 use lib.Dec.{ltb}
 use lib.Bits.{bitXor}
 use lib.Count.{ones}
-use lib.ListN.{length, getD}
+use lib.ListN.{length, getD, take, drop}
 use Rattle.numbers.specs.Bits.{bit, equal, subset}
 use Rattle.numbers.specs.Sums.{sum, sumOf, list}
 use Rattle.numbers.specs.Turn.{_≈_}
@@ -43,6 +43,19 @@ gathered up n v = list (2 ^ n) (λ s. sum (2 ^ n) (λ m. counts up s m * entry v
 unfoldable pub mixed : Bool → ℕ → List ℕ → List ℕ
 mixed true h v = list h (λ i. (entry v i + entry v (h + i)) % 65536) ++ list h (λ i. entry v (h + i))
 mixed false h v = list h (λ i. entry v i) ++ list h (λ i. (entry v (h + i) + entry v i) % 65536)
+
+-- f on each of the first c blocks of s entries
+unfoldable pub inBlocks : (List ℕ → List ℕ) → ℕ → ℕ → List ℕ → List ℕ
+inBlocks f s zero v = v
+inBlocks f s (suc c) v = f (take s v) ++ inBlocks f s c (drop s v)
+
+-- a row of 2^n entries, gathered in each of its 2^rest blocks of `size`
+pub record Blocks (up : Bool) (n size : ℕ) (before after : List ℕ) : Type 0 where
+  pub wires : ℕ
+  pub rest : ℕ
+  pub all : wires + rest ≡ n
+  pub power : size ≡ 2 ^ wires
+  pub blocks : after ≡ inBlocks (gathered up wires) size (2 ^ rest) before
 
 -- the entries from `from` on added to those from `to` on
 pub record Added (to from count : ℕ) (before after : List ℕ) : Type 0 where

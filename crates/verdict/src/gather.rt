@@ -3,44 +3,63 @@ ghost use mathlib.Core.Path.{_≡_};
 ghost use mathlib.Core.Bool.{true};
 ghost use mathlib.Core.List.{[], _∷_};
 ghost use mathlib.Core.Logic.{_⊎_};
-ghost use Prim.Native.Nat.{ℕ, _^_, _+_, _≤_};
+ghost use Prim.Native.Nat.{ℕ, _^_, _+_, _*_, _<_, _≤_};
 ghost use lib.ListN.{length};
-ghost use Rattle.verdict.specs.Working.{gathered, mixed, Added};
+ghost use Rattle.verdict.specs.Working.{gathered, mixed, Added, inBlocks, Blocks};
 
-// Each half is gathered, then one is added to the other: the upper to the lower if `up`.
+// Blocks are gathered, then two neighbours at a time made one, until one block is left.
 pub fn gather(v: &mut [u16], up: bool)
+    requires { ⌜ length (now v) ≤ 1024 ⌝ }
     ensures { λ _. ⌜ ((n : ℕ) → length (now (v .entry)) ≡ 2 ^ n → now (v .exit) ≡ gathered up n (now (v .entry))) ⌝ }
 {
-    if v.len() == 8 {
-        eight(v, up);
-        return;
-    }
-    if v.len() == 16 {
-        sixteen(v, up);
-        return;
-    }
-    let half = v.len() / 2;
-    if 0 < half {
-        gather(&mut v[..half], up);
-        gather(&mut v[half..], up);
-        mix(v, half, up);
+    let mut size = first_blocks(v, up);
+    while size < v.len() {
+        join(v, size, up);
+        size += size;
     }
 }
 
-// The same without the recursion: the compiler makes straight code of it.
-fn sixteen(v: &mut [u16], up: bool)
-    requires { ⌜ length (now v) ≡ 16 ⌝ }
-    ensures { λ _. ⌜ ((n : ℕ) → length (now (v .entry)) ≡ 2 ^ n → now (v .exit) ≡ gathered up n (now (v .entry))) ⌝ }
+// The first blocks, and their size: eight, by straight code, or one where there are fewer entries.
+fn first_blocks(v: &mut [u16], up: bool) -> usize
+    requires { ⌜ length (now v) ≤ 1024 ⌝ }
+    ensures { λ r. ⌜ (0 < r) × (r ≤ 8) × ((n : ℕ) → length (now (v .entry)) ≡ 2 ^ n → Blocks up n r (now (v .entry)) (now (v .exit))) ⌝ }
 {
-    eight(&mut v[..8], up);
-    eight(&mut v[8..], up);
-    mix(v, 8, up)
+    if v.len() < 8 {
+        return 1;
+    }
+    eights(v, up);
+    8
+}
+
+// Each block of eight is gathered.
+fn eights(v: &mut [u16], up: bool)
+    requires { ⌜ length (now v) ≤ 1024 ⌝ }
+    ensures { λ _. ⌜ ((c : ℕ) → length (now (v .entry)) ≡ c * 8 → now (v .exit) ≡ inBlocks (gathered up 3) 8 c (now (v .entry))) ⌝ }
+{
+    let mut at: usize = 0;
+    while at + 8 <= v.len() {
+        eight(&mut v[at..at + 8], up);
+        at += 8;
+    }
+}
+
+// Each two neighbouring blocks of `half` entries become one.
+fn join(v: &mut [u16], half: usize, up: bool)
+    requires { ⌜ (0 < half) × (half ≤ length (now v)) × (length (now v) ≤ 1024) ⌝ }
+    ensures { λ _. ⌜ ((c : ℕ) → length (now (v .entry)) ≡ c * (half + half) → now (v .exit) ≡ inBlocks (mixed up half) (half + half) c (now (v .entry))) ⌝ }
+{
+    let size = half + half;
+    let mut at: usize = 0;
+    while at + size <= v.len() {
+        mix(&mut v[at..at + size], half, up);
+        at += size;
+    }
 }
 
 // The sets that lie in one are those that contain it, counted from the other end.
 fn eight(v: &mut [u16], up: bool)
     requires { ⌜ length (now v) ≡ 8 ⌝ }
-    ensures { λ _. ⌜ ((n : ℕ) → length (now (v .entry)) ≡ 2 ^ n → now (v .exit) ≡ gathered up n (now (v .entry))) ⌝ }
+    ensures { λ _. ⌜ now (v .exit) ≡ gathered up 3 (now (v .entry)) ⌝ }
 {
     if up {
         let r = sums(v[0], v[1], v[2], v[3], v[4], v[5], v[6], v[7]);
@@ -88,9 +107,10 @@ fn sums(a: u16, b: u16, c: u16, d: u16, e: u16, f: u16, g: u16, h: u16) -> [u16;
     ]
 }
 
+// The two halves, one added to the other: the upper to the lower if `up`.
 fn mix(v: &mut [u16], half: usize, up: bool)
-    requires { ⌜ half + half ≤ length (now v) ⌝ }
-    ensures { λ _. ⌜ (half + half ≡ length (now (v .entry)) → now (v .exit) ≡ mixed up half (now (v .entry))) ⌝ }
+    requires { ⌜ half + half ≡ length (now v) ⌝ }
+    ensures { λ _. ⌜ now (v .exit) ≡ mixed up half (now (v .entry)) ⌝ }
 {
     if up {
         add_rows(v, 0, half, half);

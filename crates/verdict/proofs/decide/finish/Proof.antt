@@ -4,6 +4,7 @@ use lib.ListN.{length}
 use lib.Seq.{length-take-le}
 use Rattle.verdict.proofs.Turning.{front-long}
 use Rattle.verdict.proofs.Summaries.{gather-long, finishes}
+use native.Mathlib.Omega.{arith}
 use borrow.Author.Needs.{needs}
 use Rattle.verdict.proofs.decide.finish.Statement.{statement}
 use Rattle.verdict.proofs.decide.finish.Tie as tie
@@ -15,7 +16,9 @@ slice-aggregate-gather : tie.Need-slice-aggregate-gather
 slice-aggregate-gather c = let start = c .before .before .before in sym (length-take-le (length (start .args .work .now)) (start .args .row .now) (start .pre .0))
 
 gather-requires : tie.Need-gather-requires
-gather-requires c κs = search needs
+gather-requires c κs =
+    let start = c .before .before .before in
+    omega (arith, length-take-le (length (start .args .work .now)) (start .args .row .now) (start .pre .0))
 
 slice-reshare-prefix-weigh : tie.Need-slice-reshare-prefix-weigh
 slice-reshare-prefix-weigh c = search needs

@@ -24,7 +24,7 @@ returns c =
     let start = then1 .before .before in
     let a = start .args in
     let r = after-add-rows .add-rows in
-    λ e. mixed-up (a .half) (a .v .now) (r .last .0) e (r .ensures) ∙ ap (λ (b : Bool). mixed b (a .half) (a .v .now)) (sym (then1 .if1 .taken))
+    mixed-up (a .half) (a .v .now) (r .last .0) (start .pre) (r .ensures) ∙ ap (λ (b : Bool). mixed b (a .half) (a .v .now)) (sym (then1 .if1 .taken))
 
 same-length-2 : tie.Need-same-length-2
 same-length-2 c = search needs
@@ -36,7 +36,7 @@ returns-2 c =
     let start = else1 .before .before in
     let a = start .args in
     let r = after-add-rows2 .add-rows2 in
-    λ e. mixed-down (a .half) (a .v .now) (r .last .0) e (r .ensures) ∙ ap (λ (b : Bool). mixed b (a .half) (a .v .now)) (sym (else1 .if1 .left))
+    mixed-down (a .half) (a .v .now) (r .last .0) (start .pre) (r .ensures) ∙ ap (λ (b : Bool). mixed b (a .half) (a .v .now)) (sym (else1 .if1 .left))
 
 pub mix-spec : {M : Type 1} → statement M
 mix-spec =
