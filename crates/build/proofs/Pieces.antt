@@ -13,19 +13,12 @@ use Rattle.circuit.specs.declared.Gate.{Gate}
 use Rattle.circuit.specs.declared.Gate.the-variants.{Cnot, Phase}
 use Rattle.circuit.specs.Gates.{gateBytes, bytesOf, putAt}
 use Rattle.circuit.proofs.Decoding.{bytes-append, length-bytes}
-use Rattle.circuit.proofs.Writing.{put-put, put-sets, length-put}
+use Rattle.circuit.proofs.Writing.{put-put, put-sets, put-none, length-put}
 use Rattle.build.specs.Gray.{turned, word}
 use Rattle.build.specs.Construction.{inTurn, cnotAfter, block, variables}
 use Rattle.numbers.proofs.Powers.{power-fits}
 use Rattle.build.proofs.Gray.{word-below, turned-below}
 use Rattle.build.proofs.Circuits.{length-inTurn, sum-same}
-
-pub bytes-one : (g : Gate) → bytesOf (g ∷ []) ≡ gateBytes g
-unfolding bytesOf
-bytes-one g = append-nil (gateBytes g)
-
-pub put-none : (at : ℕ) (out : List ℕ) → at ≤ length out → putAt [] at out ≡ out
-put-none at out h = put-sets [] at out (omega arith)
 
 -- a list, then another just behind it
 pub put-more : (xs ys : List Gate) (at : ℕ) (out : List ℕ) → at + length (bytesOf (xs ++ ys)) ≤ length out

@@ -5,7 +5,7 @@ use native.Mathlib.Decide.{decLt, ℕ-discrete}
 use native.Mathlib.Omega.{arith}
 use mathlib.Core.Path.{_≡_, refl, sym, ap, ap₂, subst, subst₂, _∙_}
 use mathlib.Core.Logic.{_⊎_, inl, inr}
-use mathlib.Core.List.{List, [], _∷_, _++_, append-assoc}
+use mathlib.Core.List.{List, [], _∷_, _++_, append-nil, append-assoc}
 use lib.ListN.{length, getD, drop, length-drop}
 use lib.Seq.{drop-drop, getD-drop}
 use borrow.Author.Tests.{lt-ltb, le-ltb, eq-eqb, ne-eqb}
@@ -192,6 +192,10 @@ pub bytes-append : (xs ys : List Gate) → bytesOf (xs ++ ys) ≡ bytesOf xs ++ 
 unfolding bytesOf
 bytes-append [] ys = refl
 bytes-append (g ∷ xs) ys = ap (gateBytes g ++_) (bytes-append xs ys) ∙ sym (append-assoc (gateBytes g) (bytesOf xs) (bytesOf ys))
+
+pub bytes-one : (g : Gate) → bytesOf (g ∷ []) ≡ gateBytes g
+unfolding bytesOf
+bytes-one g = append-nil (gateBytes g)
 
 pub bytes-cons : (g : Gate) (gs : List Gate) → bytesOf (g ∷ gs) ≡ gateBytes g ++ bytesOf gs
 unfolding bytesOf

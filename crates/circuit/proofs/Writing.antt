@@ -23,6 +23,10 @@ put-nothing bs at out h = rw (lt-leb (at + length bs) (length out) h)
 pub put-sets : (bs : List ℕ) (at : ℕ) (out : List ℕ) → at + length bs ≤ length out → putAt bs at out ≡ sets out at bs
 put-sets bs at out h = put-fits bs at out h ∙ sym (sets-eq bs out at h)
 
+-- no bytes change nothing
+pub put-none : (at : ℕ) (out : List ℕ) → at ≤ length out → putAt [] at out ≡ out
+put-none at out h = put-sets [] at out (omega arith)
+
 pub length-put : (bs : List ℕ) (at : ℕ) (out : List ℕ) → at + length bs ≤ length out → length (putAt bs at out) ≡ length out
 length-put bs at out h = ap length (put-sets bs at out h) ∙ length-sets out at bs
 

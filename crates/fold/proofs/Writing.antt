@@ -5,8 +5,8 @@ use native.Mathlib.Numerals.{add-one}
 use native.Mathlib.Decide.{ℕ-discrete, decLt}
 use native.Mathlib.Omega.{arith}
 use mathlib.Core.Path.{_≡_, refl, sym, ap, ap₂, _∙_}
-use mathlib.Core.List.{List, [], _∷_, _++_, append-nil}
-use lib.ListN.{length, getD, set, take, drop, length-append, take-append-drop, List·getD-eq-default}
+use mathlib.Core.List.{List, [], _∷_, _++_}
+use lib.ListN.{length, getD, set, drop, length-append, List·getD-eq-default}
 use lib.Seq.{getD-set-same, getD-set-other, set-out}
 use Rattle.refusal.specs.Checks.{passed as allPassed, outcome}
 use Rattle.circuit.specs.declared.Gate.{Gate}
@@ -14,11 +14,11 @@ use Rattle.circuit.specs.declared.Gate.the-variants.{Cnot, Phase}
 use Rattle.circuit.specs.Gates.{gateBytes, bytesOf, putAt, Sound}
 use Rattle.circuit.specs.File.{wiresOf, countOf, gatesOf, fileChecks}
 use Rattle.running.specs.Masks.{ownMasks, firstMasks, masksAfter, met, modulo}
-use Rattle.circuit.proofs.Decoding.{Bytes, bytes-append, length-bytes, sound-wider}
+use Rattle.circuit.proofs.Decoding.{Bytes, bytes-one, bytes-append, length-bytes, sound-wider}
 use Rattle.circuit.proofs.Files.{good-file, file-sound, gates-end}
 use Rattle.running.proofs.Masks.{MasksBelow, first-alike, first-below, after-below}
 use Rattle.running.proofs.Stepping.{modulo-sound}
-use Rattle.circuit.proofs.Writing.{put-fits, put-put, length-put, four-stored, four-read}
+use Rattle.circuit.proofs.Writing.{put-none, put-put, length-put, four-stored, four-read}
 use Rattle.fold.specs.Fold.{groupTotal, folded}
 use Rattle.fold.specs.Totals.{Totals, takenFrom, found, left, leaves}
 use Rattle.fold.specs.declared.writer.Left.{Left}
@@ -57,10 +57,6 @@ module _ (totals masks : List ℕ) (below : MasksBelow 10 masks) where
   found-entry (Cnot c t) = refl
   found-entry (Phase i a) = let e : getD masks i 0 % 1024 ≡ getD masks i 0 = omega (arith, below i) in ap (entry totals) e
 
--- writing nothing changes nothing
-put-none : (at : ℕ) (out : List ℕ) → at ≤ length out → putAt [] at out ≡ out
-put-none at out h = put-fits [] at out (omega arith) ∙ ap₂ (λ (l : List ℕ) (n : ℕ). l ++ drop n out) (append-nil (take at out)) (add-zero at) ∙ take-append-drop at out
-
 -- what is left of one gate: its bytes, or none
 module _ (l : Left) (at : ℕ) (out : List ℕ) where
   pub goes : l ≡ Goes → at ≤ length out → (at ≡ at + length (bytesOf (leaves l))) × (out ≡ putAt (bytesOf (leaves l)) at out)
@@ -75,7 +71,7 @@ module _ (l : Left) (at : ℕ) (out : List ℕ) where
         → (at + 4 ≡ at + length (bytesOf (leaves l))) × (set (set (set (set out at (getD bs 0 0)) (at + 1) (getD bs 1 0)) (at + 2) (getD bs 2 0)) (at + 3) (getD bs 3 0) ≡ putAt (bytesOf (leaves l)) at out)
     unfolding bytesOf
     stays bs p h =
-        let one : gateBytes g ≡ bytesOf (leaves l) = rw e (sym (append-nil (gateBytes g))) in
+        let one : gateBytes g ≡ bytesOf (leaves l) = rw e (sym (bytes-one g)) in
         (sym (ap (at +_) four-left), four-stored out at (getD bs 0 0) (getD bs 1 0) (getD bs 2 0) (getD bs 3 0) h ∙ ap (λ (b : List ℕ). putAt b at out) (four-read g bs p ∙ one))
 
 module _ (f : List ℕ) (bytes : Bytes f) (passes : outcome (fileChecks 0 f) ≡ allPassed) where

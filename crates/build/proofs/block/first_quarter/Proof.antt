@@ -3,7 +3,7 @@ use mathlib.Core.Path.{refl, sym, ap, _∙_}
 use mathlib.Core.List.{List}
 use Rattle.circuit.specs.declared.Gate.the-variants.{Phase}
 use Rattle.circuit.specs.Gates.{putAt}
-use Rattle.build.proofs.Pieces.{bytes-one}
+use Rattle.circuit.proofs.Decoding.{bytes-one}
 use borrow.Author.Needs.{needs}
 use Rattle.build.proofs.block.first_quarter.Statement.{statement}
 use Rattle.build.proofs.block.first_quarter.Tie as tie
