@@ -5,7 +5,7 @@ use native.Mathlib.Numerals.{add-one}
 use native.Mathlib.Omega.{arith}
 use mathlib.Core.Path.{_≡_, refl, sym, ap, subst, _∙_}
 use mathlib.Core.Bool.{Bool, true, false, cond}
-use mathlib.Core.List.{List, [], _∷_, _++_}
+use mathlib.Core.List.{List, [], _∷_, _++_, append-assoc}
 use lib.ListN.{length, drop, length-append}
 use Rattle.circuit.specs.declared.Gate.{Gate}
 use Rattle.circuit.specs.declared.Gate.the-variants.{Cnot, Phase}
@@ -13,7 +13,7 @@ use Rattle.circuit.specs.Gates.{Sound, AllSound}
 use Rattle.circuit.proofs.Decoding.{sound-wider}
 use Rattle.circuit.specs.File.{wiresOf, gatesOf}
 use Rattle.listing.specs.declared.lines.Fraction.{Fraction}
-use Rattle.listing.specs.Text.{decimal, numbered}
+use Rattle.listing.specs.Text.{ascii, decimal, numbered}
 use Rattle.listing.specs.Fractions.{fractionOf}
 use Rattle.listing.specs.Listing.{versionLine, includeLine, closing, headLines, wrapLine, cnotLine, phaseLine, gateLine, gateLines, listingOf, listingOfFile}
 use Rattle.listing.proofs.Decimals.{decimal-small, one-digit, two-digits, five-digits}
@@ -45,22 +45,22 @@ unfolding cnotLine
 cnot-bytes c t hc ht = rw (decimal-small c hc, decimal-small t ht)
 
 abbrev pub lastBytes : ℕ → List ℕ
-lastBytes i = 41 ∷ 32 ∷ 113 ∷ 91 ∷ (48 + i) ∷ 93 ∷ 59 ∷ 10 ∷ []
+lastBytes i = (48 + i) ∷ 93 ∷ 59 ∷ 10 ∷ []
 
-phase-bytes : (i : ℕ) (f : Fraction) → i < 10 → phaseLine i f ≡ numbered "u1(" (f .above) ++ (numbered "*pi/" (f .below) ++ lastBytes i)
+phase-bytes : (i : ℕ) (f : Fraction) → i < 10 → phaseLine i f ≡ numbered "u1(" (f .above) ++ ((numbered "*pi/" (f .below) ++ ascii ") q[") ++ lastBytes i)
 unfolding phaseLine
-phase-bytes i f h = rw (decimal-small i h)
+phase-bytes i f h = rw (decimal-small i h, append-assoc (decimal (f .below)))
 
 module _ (g : Gate) (s : Sound 10 g) where
   pub cnot-line : (c t : ℕ) → g ≡ Cnot c t → gateLine g ≡ cnotBytes c t
   cnot-line c t e = let k = subst (Sound 10) e s in ap gateLine e ∙ cnot-bytes c t (k .0) (k .1)
 
   module _ (i a : ℕ) (f : Fraction) (e : g ≡ Phase i a) (q : f ≡ fractionOf a) where
-    pub phase-line : gateLine g ≡ numbered "u1(" (f .above) ++ (numbered "*pi/" (f .below) ++ lastBytes i)
+    pub phase-line : gateLine g ≡ numbered "u1(" (f .above) ++ ((numbered "*pi/" (f .below) ++ ascii ") q[") ++ lastBytes i)
     phase-line = let k = subst (Sound 10) e s in ap gateLine e ∙ ap (phaseLine i) (sym q) ∙ phase-bytes i f (k .0)
 
     pub phase-long : length (gateLine g) ≡ 15 + length (decimal (f .above)) + length (decimal (f .below))
-    phase-long = ap length phase-line ∙ omega (arith, length-append (decimal (f .above)) (numbered "*pi/" (f .below) ++ lastBytes i), length-append (decimal (f .below)) (lastBytes i))
+    phase-long = ap length phase-line ∙ simp length-append (omega arith)
 
 -- ---- how long they are
 

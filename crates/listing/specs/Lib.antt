@@ -1,3 +1,4 @@
 pub mod Text
 pub mod Fractions
+pub mod Denominators
 pub mod Listing

@@ -75,11 +75,13 @@ fn put_gates(file: &[u8], gates: usize, out: &mut [u8], at: usize) -> usize
     requires { ⌜ at + length (gateLines (gatesOf (now file))) ≤ length (now out) ⌝ }
     ensures { λ r. ⌜ Wrote (gateLines (gatesOf (now (file .entry)))) at (now (out .entry)) r (now (out .exit)) ⌝ }
 {
+    // A copy, so that the compiler knows that `out` is apart from it.
+    let rows = lines::DENOMINATORS;
     let mut next: usize = at;
     let mut i: usize = 0;
     while i < gates {
         let gate = good_gate(file, i);
-        next = lines::put_gate(gate, out, next);
+        next = lines::put_gate(gate, &rows, out, next);
         i += 1;
     }
     next

@@ -3,8 +3,11 @@ use native.Mathlib.Omega.{arith}
 use mathlib.Core.Path.{refl, subst}
 use mathlib.Core.List.{List, _++_}
 use lib.ListN.{drop}
+use borrow.Author.Needs.{needs}
 use Rattle.circuit.specs.File.{gatesOf}
+use Rattle.listing.specs.Text.{decimalFrom}
 use Rattle.listing.specs.Listing.{gateLine, gateLines}
+use Rattle.listing.proofs.Denominators.{rows-right}
 use Rattle.listing.proofs.Writing.{Left, all-left, room, less-left, none-left}
 use Rattle.listing.proofs.Pieces.{next-line}
 use Rattle.listing.proofs.GateLoops.{none-after}
@@ -13,10 +16,10 @@ use Rattle.listing.proofs.put_gates.Tie as tie
 
 -- the lines of the rest are left
 abbrev Inv-loop : tie.InvT-loop
-Inv-loop file gates out₀ at next₀ i₀ out next i = (i ≤ gates) × Left (gateLines (gatesOf file)) at out₀ (gateLines (drop i (gatesOf file))) next out
+Inv-loop file gates out₀ at rows next₀ i₀ out next i = (i ≤ gates) × Left (gateLines (gatesOf file)) at out₀ (gateLines (drop i (gatesOf file))) next out
 
 abbrev μ-loop : tie.MeasureT-loop
-μ-loop file gates out₀ at next₀ i₀ out next i = gates - i
+μ-loop file gates out₀ at rows next₀ i₀ out next i = gates - i
 
 abbrev loop : tie.After-good-gate Inv-loop μ-loop → tie.At-loop Inv-loop μ-loop
 loop c = c .before .before
@@ -39,8 +42,12 @@ loop-holds c = let s = c .before .before in (omega arith, all-left (s .args .at)
 good-gate-requires : tie.Need-good-gate-requires Inv-loop μ-loop
 good-gate-requires c κs = (c .before .before .before .before .pre .0 .0, omega arith)
 
+slice-aggregate-put-gate : tie.Need-slice-aggregate-put-gate Inv-loop μ-loop
+slice-aggregate-put-gate c = search needs
+
 put-gate-requires : tie.Need-put-gate-requires Inv-loop μ-loop
-put-gate-requires c κs = let g = c .before in (g .good-gate .ensures .1, room (gateLine (g .good-gate .result)) (rest g) (left g))
+unfolding decimalFrom
+put-gate-requires c κs = let g = c .before .before in ((g .good-gate .ensures .1, rows-right _ refl), room (gateLine (g .good-gate .result)) (rest g) (left g))
 
 add-i : tie.Need-add-i Inv-loop μ-loop
 add-i c = omega arith
@@ -50,7 +57,7 @@ loop-less c = omega arith
 
 loop-again : tie.Need-loop-again Inv-loop μ-loop
 loop-again c = let put = c .before .before in
-    let g = put .before .before in
+    let g = put .before .before .before in
     (omega arith, less-left (gateLine (g .good-gate .result)) (rest g) (left g) (put .put-gate .ensures))
 
 same-length : tie.Need-same-length Inv-loop μ-loop
@@ -70,6 +77,7 @@ put-gates-spec =
     μ-loop
     loop-holds
     good-gate-requires
+    slice-aggregate-put-gate
     put-gate-requires
     add-i
     loop-less

@@ -1,11 +1,14 @@
-use Prim.Native.Nat.{ℕ}
+use Prim.Native.Nat.{ℕ, _/_, _^_}
 use native.Mathlib.Omega.{arith}
 use mathlib.Core.Path.{_≡_, sym, ap, subst}
 use mathlib.Core.List.{List, _++_}
 use lib.ListN.{length}
 use Rattle.circuit.specs.declared.Gate.the-variants.{Cnot}
 use Rattle.circuit.specs.Gates.{Sound}
+use Rattle.listing.specs.declared.lines.Fraction.{Fraction}
 use Rattle.listing.specs.Text.{numbered}
+use Rattle.listing.specs.Fractions.{over}
+use Rattle.listing.specs.Denominators.{denominatorText}
 use Rattle.listing.specs.Listing.{gateLine}
 use Rattle.listing.proofs.Writing.{Left, all-left, room, less-left, all-written, wrote-same}
 use Rattle.listing.proofs.Pieces.{cnotBytes, lastBytes, cnot-line, phase-line}
@@ -14,39 +17,42 @@ use Rattle.listing.proofs.lines.put_gate.Statement.{statement}
 use Rattle.listing.proofs.lines.put_gate.Tie as tie
 
 -- a CNOT's line
-cnot : (c : tie.After-gate) → let v = c .gate .given in cnotBytes (v .0 .0) (v .0 .1 .0) ≡ gateLine (c .before .before .before .args .gate)
-cnot c = let s = c .before .before .before in let v = c .gate .given in sym (cnot-line (s .args .gate) (s .pre .0) (v .0 .0) (v .0 .1 .0) (v .1))
+cnot : (c : tie.After-gate) → let v = c .gate .given in cnotBytes (v .0 .0) (v .0 .1 .0) ≡ gateLine (c .before .before .before .before .args .gate)
+cnot c = let s = c .before .before .before .before in let v = c .gate .given in sym (cnot-line (s .args .gate) (s .pre .0 .0) (v .0 .0) (v .0 .1 .0) (v .1))
 
 wires-of : (c : tie.After-gate) → let v = c .gate .given .0 in Sound 10 (Cnot (v .0) (v .1 .0))
-wires-of c = subst (Sound 10) (c .gate .given .1) (c .before .before .before .pre .0)
+wires-of c = subst (Sound 10) (c .gate .given .1) (c .before .before .before .before .pre .0 .0)
 
 -- a phase gate's line
-abbrev p0 : tie.After-in-lowest-terms → tie.After-gate2
+abbrev p0 : tie.After-halvings → tie.After-gate2
 p0 c = c .before .before
 
-abbrev start : tie.After-in-lowest-terms → tie.Start
-start c = p0 c .before .before .before
+abbrev start : tie.After-halvings → tie.Start
+start c = p0 c .before .before .before .before
 
-abbrev wire : tie.After-in-lowest-terms → ℕ
+abbrev wire : tie.After-halvings → ℕ
 wire c = p0 c .gate2 .given .0 .0
 
-abbrev rest : tie.After-in-lowest-terms → List ℕ
-rest c = numbered "*pi/" (c .in-lowest-terms .result .below) ++ lastBytes (wire c)
+abbrev fraction : tie.After-halvings → Fraction
+fraction c = over (p0 c .gate2 .given .0 .1 .0 / 2 ^ c .halvings .result) (32768 / 2 ^ c .halvings .result)
 
-left0 : (c : tie.After-in-lowest-terms) → let a = start c .args in Left (gateLine (a .gate)) (a .at) (a .out .now) (numbered "u1(" (c .in-lowest-terms .result .above) ++ rest c) (a .at) (a .out .now)
-left0 c = let s = start c in let v = p0 c .gate2 .given in all-left (s .args .at) (s .args .out .now) (phase-line (s .args .gate) (s .pre .0) (v .0 .0) (v .0 .1 .0) (c .in-lowest-terms .result) (v .1) (c .in-lowest-terms .ensures)) (s .pre .1)
+abbrev rest : tie.After-halvings → List ℕ
+rest c = denominatorText (c .halvings .result) ++ lastBytes (wire c)
 
-abbrev p1 : tie.After-put-numbered → tie.After-in-lowest-terms
+left0 : (c : tie.After-halvings) → let a = start c .args in Left (gateLine (a .gate)) (a .at) (a .out .now) (numbered "u1(" (fraction c .above) ++ rest c) (a .at) (a .out .now)
+left0 c = let s = start c in let v = p0 c .gate2 .given in all-left (s .args .at) (s .args .out .now) (phase-line (s .args .gate) (s .pre .0 .0) (v .0 .0) (v .0 .1 .0) (fraction c) (v .1) (c .halvings .ensures .1)) (s .pre .1)
+
+abbrev p1 : tie.After-put-numbered → tie.After-halvings
 p1 c = c .before .before .before
 
 left1 : (c : tie.After-put-numbered) → let a = start (p1 c) .args in Left (gateLine (a .gate)) (a .at) (a .out .now) (rest (p1 c)) (c .put-numbered .result) (c .put-numbered .last .1 .1 .0)
-left1 c = less-left (numbered "u1(" (p1 c .in-lowest-terms .result .above)) (rest (p1 c)) (left0 (p1 c)) (c .put-numbered .ensures)
+left1 c = less-left (numbered "u1(" (fraction (p1 c) .above)) (rest (p1 c)) (left0 (p1 c)) (c .put-numbered .ensures)
 
-abbrev p2 : tie.After-put-numbered2 → tie.After-put-numbered
-p2 c = c .before .before .before .before .before
+abbrev p2 : tie.After-put-denominator → tie.After-put-numbered
+p2 c = c .before .before .before .before
 
-left2 : (c : tie.After-put-numbered2) → let s = p1 (p2 c) in let a = start s .args in Left (gateLine (a .gate)) (a .at) (a .out .now) (lastBytes (wire s)) (c .put-numbered2 .result) (c .put-numbered2 .last .1 .1 .0)
-left2 c = let s = p1 (p2 c) in less-left (numbered "*pi/" (s .in-lowest-terms .result .below)) (lastBytes (wire s)) (left1 (p2 c)) (c .put-numbered2 .ensures)
+left2 : (c : tie.After-put-denominator) → let s = p1 (p2 c) in let a = start s .args in Left (gateLine (a .gate)) (a .at) (a .out .now) (lastBytes (wire s)) (c .put-denominator .result) (c .put-denominator .last .1 .1 .0)
+left2 c = let s = p1 (p2 c) in less-left (denominatorText (s .halvings .result)) (lastBytes (wire s)) (left1 (p2 c)) (c .put-denominator .ensures)
 
 enum-known-gate : tie.Need-enum-known-gate
 enum-known-gate c = search needs
@@ -61,28 +67,30 @@ slice-aggregate-put-text : tie.Need-slice-aggregate-put-text
 slice-aggregate-put-text c = search needs
 
 put-text-requires : tie.Need-put-text-requires
-put-text-requires c κs = let g = c .before .before .before in omega (arith, ap length (cnot g), g .before .before .before .pre .1)
+put-text-requires c κs = let g = c .before .before .before in omega (arith, ap length (cnot g), g .before .before .before .before .pre .1)
 
 enum-known-gate-2 : tie.Need-enum-known-gate-2
 enum-known-gate-2 c = search needs
 
-in-lowest-terms-requires : tie.Need-in-lowest-terms-requires
-in-lowest-terms-requires c κs = search needs
+halvings-requires : tie.Need-halvings-requires
+halvings-requires c κs = search needs
 
 slice-aggregate-put-numbered : tie.Need-slice-aggregate-put-numbered
 slice-aggregate-put-numbered c = search needs
 
+shr-put-numbered : tie.Need-shr-put-numbered
+shr-put-numbered c = search needs
+
 put-numbered-requires : tie.Need-put-numbered-requires
-put-numbered-requires c κs = let s = c .before .before in room (numbered "u1(" (s .in-lowest-terms .result .above)) (rest s) (left0 s)
+put-numbered-requires c κs = let s = c .before .before in room (numbered "u1(" (fraction s .above)) (rest s) (left0 s)
 
-slice-aggregate-put-numbered-2 : tie.Need-slice-aggregate-put-numbered-2
-slice-aggregate-put-numbered-2 c = search needs
-
-put-numbered-requires-2 : tie.Need-put-numbered-requires-2
-put-numbered-requires-2 c κs = let p = c .before .before .before .before in let s = p1 p in room (numbered "*pi/" (s .in-lowest-terms .result .below)) (lastBytes (wire s)) (left1 p)
+put-denominator-requires : tie.Need-put-denominator-requires
+put-denominator-requires c κs = let p = c .before .before .before in
+    let s = p1 p in
+    ((s .halvings .ensures .0, start s .pre .0 .1), room (denominatorText (s .halvings .result)) (lastBytes (wire s)) (left1 p))
 
 add-i : tie.Need-add-i
-add-i c = let s = p1 (p2 (c .before .before)) in omega (arith, subst (Sound 10) (p0 s .gate2 .given .1) (start s .pre .0) .0)
+add-i c = let s = p1 (p2 (c .before .before)) in omega (arith, subst (Sound 10) (p0 s .gate2 .given .1) (start s .pre .0 .0) .0)
 
 slice-aggregate-put-text-2 : tie.Need-slice-aggregate-put-text-2
 slice-aggregate-put-text-2 c = search needs
@@ -112,11 +120,11 @@ put-gate-spec =
     slice-aggregate-put-text
     put-text-requires
     enum-known-gate-2
-    in-lowest-terms-requires
+    halvings-requires
     slice-aggregate-put-numbered
+    shr-put-numbered
     put-numbered-requires
-    slice-aggregate-put-numbered-2
-    put-numbered-requires-2
+    put-denominator-requires
     add-i
     slice-aggregate-put-text-2
     put-text-requires-2
