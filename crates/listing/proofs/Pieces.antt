@@ -12,9 +12,8 @@ use Rattle.circuit.specs.declared.Gate.the-variants.{Cnot, Phase}
 use Rattle.circuit.specs.Gates.{Sound, AllSound}
 use Rattle.circuit.proofs.Decoding.{sound-wider}
 use Rattle.circuit.specs.File.{wiresOf, gatesOf}
-use Rattle.listing.specs.declared.lines.Fraction.{Fraction}
 use Rattle.listing.specs.Text.{ascii, decimal, numbered}
-use Rattle.listing.specs.Fractions.{fractionOf}
+use Rattle.listing.specs.Fractions.{Fraction, fractionOf}
 use Rattle.listing.specs.Listing.{versionLine, includeLine, closing, headLines, wrapLine, cnotLine, phaseLine, gateLine, gateLines, listingOf, listingOfFile}
 use Rattle.listing.proofs.Decimals.{decimal-small, one-digit, two-digits, five-digits}
 use Rattle.listing.proofs.Fractions.{denominator-most, fraction-equals}
@@ -59,7 +58,7 @@ module _ (g : Gate) (s : Sound 10 g) where
     pub phase-line : gateLine g ≡ numbered "u1(" (f .above) ++ ((numbered "*pi/" (f .below) ++ ascii ") q[") ++ lastBytes i)
     phase-line = let k = subst (Sound 10) e s in ap gateLine e ∙ ap (phaseLine i) (sym q) ∙ phase-bytes i f (k .0)
 
-    pub phase-long : length (gateLine g) ≡ 15 + length (decimal (f .above)) + length (decimal (f .below))
+    pub phase-long : length (gateLine g) ≡ 7 + length (decimal (f .above)) + length (numbered "*pi/" (f .below) ++ ascii ") q[")
     phase-long = ap length phase-line ∙ simp length-append (omega arith)
 
 -- ---- how long they are
@@ -85,6 +84,7 @@ line-short (Phase i a) s =
     omega (
       arith,
       phase-long (Phase i a) s i a f refl refl,
+      length-append (numbered "*pi/" (f .below)) (ascii ") q["),
       five-digits (f .above) (omega (arith, fraction-equals a, mul-le-mul-left a m, s .1)),
       five-digits (f .below) (omega arith),
     )

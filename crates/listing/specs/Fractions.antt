@@ -3,9 +3,12 @@ use Prim.Native.Nat.{ℕ, _*_, _/_, _%_}
 use mathlib.Core.Bool.{Bool}
 use lib.Dec.{eqb}
 use Rattle.numbers.specs.Search.{least}
-use Rattle.listing.specs.declared.lines.Fraction.{Fraction}
 
 -- "K/D"
+pub record Fraction : Type 0 where
+  pub above : ℕ
+  pub below : ℕ
+
 abbrev pub over : ℕ → ℕ → Fraction
 over k d = record { above = k; below = d }
 

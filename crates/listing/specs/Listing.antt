@@ -8,11 +8,10 @@ use Rattle.refusal.specs.Contract.{Said, values, saidOf, Meets}
 use Rattle.circuit.specs.declared.Gate.{Gate}
 use Rattle.circuit.specs.declared.Gate.the-variants.{Cnot, Phase}
 use Rattle.circuit.specs.File.{wiresOf, gatesOf, fileChecks}
-use Rattle.listing.specs.declared.lines.Fraction.{Fraction}
 use Rattle.listing.specs.declared.Listed.{Listed}
 use Rattle.listing.specs.declared.Listed.the-variants.{Length, Refused}
 use Rattle.listing.specs.Text.{ascii, numbered}
-use Rattle.listing.specs.Fractions.{fractionOf}
+use Rattle.listing.specs.Fractions.{Fraction, fractionOf}
 
 -- "`OPENQASM 2.0;`"
 abbrev pub versionLine : List ℕ

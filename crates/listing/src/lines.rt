@@ -42,27 +42,11 @@ pub const DENOMINATORS: [u8; 208] = *b"\
     *pi/1) q[    \
 ";
 
-// An angle as a part of pi: `above` times pi over `below`.
-struct Fraction {
-    above: u16,
-    below: u16,
-}
-
 // How often an angle and 32,768 can both be halved.
 fn halvings(angle: u16) -> u16
     ensures { λ r. ⌜ (r ≤ 15) × (over (angle / 2 ^ r) (32768 / 2 ^ r) ≡ fractionOf angle) ⌝ }
 {
     u16::trailing_zeros(angle | 32768) as u16
-}
-
-// An angle over 32,768, both divided by the largest power of two that divides both.
-fn in_lowest_terms(angle: u16) -> Fraction
-    ensures { λ r. ⌜ r ≡ fractionOf angle ⌝ }
-{
-    let twos = halvings(angle);
-    let above = angle >> twos;
-    let below = 32768 >> twos;
-    Fraction { above, below }
 }
 
 // A fixed word, a wire's number, and what ends the line.
@@ -107,8 +91,8 @@ pub fn line_length(gate: Gate) -> usize
             target: _,
         } => 14,
         Gate::Phase { wire: _, angle } => {
-            let f = in_lowest_terms(angle);
-            15 + digits(f.above) + digits(f.below)
+            let twos = halvings(angle);
+            7 + digits(angle >> twos) + denominator_length(twos)
         }
     }
 }
@@ -116,7 +100,7 @@ pub fn line_length(gate: Gate) -> usize
 // How long "*pi/D) q[" is, D being 32,768 halved `twos` times: 77/256 is near enough to the logarithm of 2 for D's digits.
 fn denominator_length(twos: u16) -> usize
     requires { ⌜ twos ≤ 15 ⌝ }
-    ensures { λ r. ⌜ r ≡ length (denominatorText twos) ⌝ }
+    ensures { λ r. ⌜ (r ≡ length (denominatorText twos)) × (9 ≤ r) × (r ≤ 13) ⌝ }
 {
     9 + 77 * (15 - (twos as usize)) / 256
 }

@@ -4,21 +4,17 @@ use native.Mathlib.Omega.{arith}
 use mathlib.Core.List.{List}
 use lib.ListN.{length}
 use Rattle.listing.specs.Denominators.{denominatorText}
-use Rattle.listing.proofs.Denominators.{eight-meet, row-inside, first-bytes, last-bytes}
+use Rattle.listing.proofs.Denominators.{row-inside, first-bytes, last-bytes}
 use Rattle.listing.proofs.Writing.{wrote-same, wrote-over}
 use borrow.Author.Needs.{needs}
 use Rattle.listing.proofs.lines.put_denominator.Statement.{statement}
 use Rattle.listing.proofs.lines.put_denominator.Tie as tie
 
--- the table
 abbrev rows : tie.After-denominator-length → List ℕ
 rows c = c .before .before .before .args .rows .now
 
-meet : (c : tie.After-denominator-length) → (9 ≤ c .denominator-length .result) × (c .denominator-length .result ≤ 13)
-meet c = let s = c .before .before .before in eight-meet (s .args .twos) (c .denominator-length .result) (s .pre .0 .0) (c .denominator-length .ensures)
-
 inside : (c : tie.After-denominator-length) → 13 * c .before .before .before .args .twos + c .denominator-length .result ≤ length (rows c)
-inside c = let s = c .before .before .before in row-inside (rows c) (s .pre .0 .1) (s .args .twos) (c .denominator-length .result) (s .pre .0 .0) (c .denominator-length .ensures)
+inside c = let s = c .before .before .before in row-inside (rows c) (s .pre .0 .1) (s .args .twos) (c .denominator-length .result) (s .pre .0 .0) (c .denominator-length .ensures .0)
 
 mul-from : tie.Need-mul-from
 mul-from c = search needs
@@ -27,7 +23,7 @@ denominator-length-requires : tie.Need-denominator-length-requires
 denominator-length-requires c κs = search needs
 
 sub-rest : tie.Need-sub-rest
-sub-rest c = omega (arith, meet c)
+sub-rest c = omega (arith, c .denominator-length .ensures)
 
 add-last : tie.Need-add-last
 add-last c = search needs
@@ -42,10 +38,10 @@ part-put-text-start : tie.Need-part-put-text-start
 part-put-text-start c = search needs
 
 part-put-text-end : tie.Need-part-put-text-end
-part-put-text-end c = omega (arith, meet c, inside c)
+part-put-text-end c = omega (arith, c .denominator-length .ensures, inside c)
 
 put-text-requires : tie.Need-put-text-requires
-put-text-requires c κs = let d = c .before .before in omega (arith, meet d)
+put-text-requires c κs = let d = c .before .before in omega (arith, d .denominator-length .ensures)
 
 add-put-text-2 : tie.Need-add-put-text-2
 add-put-text-2 c = search needs
@@ -57,13 +53,13 @@ part-put-text-start-2 : tie.Need-part-put-text-start-2
 part-put-text-start-2 c = search needs
 
 part-put-text-end-2 : tie.Need-part-put-text-end-2
-part-put-text-end-2 c = let d = c .before .before .before .before .before in omega (arith, meet d, inside d)
+part-put-text-end-2 c = let d = c .before .before .before .before .before in omega (arith, d .denominator-length .ensures, inside d)
 
 add-put-text-3 : tie.Need-add-put-text-3
 add-put-text-3 c = search needs
 
 put-text-requires-2 : tie.Need-put-text-requires-2
-put-text-requires-2 c κs = let d = c .before .before .before .before .before .before .before in omega (arith, meet d, c .before .before .before .before .put-text .kept)
+put-text-requires-2 c κs = let d = c .before .before .before .before .before .before .before in omega (arith, d .denominator-length .ensures, c .before .before .before .before .put-text .kept)
 
 same-length : tie.Need-same-length
 same-length c = search needs
@@ -75,9 +71,9 @@ returns c =
     let d = first .before .before .before in
     let s = d .before .before .before in
     let n = d .denominator-length .result in
-    let v = first-bytes (rows d) (s .pre .0 .1) (s .args .twos) n (s .pre .0 .0) (d .denominator-length .ensures) in
-    let w = last-bytes (rows d) (s .pre .0 .1) (s .args .twos) n (s .pre .0 .0) (d .denominator-length .ensures) in
-    wrote-over (denominatorText (s .args .twos)) (n - 8) 8 (omega (arith, meet d)) (omega (arith, meet d)) (s .pre .1) (wrote-same (rw add-sub-cancel-left v) (first .put-text .ensures)) (wrote-same (rw add-sub-cancel-left w) (second .put-text2 .ensures))
+    let v = first-bytes (rows d) (s .pre .0 .1) (s .args .twos) n (s .pre .0 .0) (d .denominator-length .ensures .0) in
+    let w = last-bytes (rows d) (s .pre .0 .1) (s .args .twos) n (s .pre .0 .0) (d .denominator-length .ensures .0) in
+    wrote-over (denominatorText (s .args .twos)) (n - 8) 8 (omega (arith, d .denominator-length .ensures)) (omega (arith, d .denominator-length .ensures)) (s .pre .1) (wrote-same (rw add-sub-cancel-left v) (first .put-text .ensures)) (wrote-same (rw add-sub-cancel-left w) (second .put-text2 .ensures))
 
 pub put-denominator-spec : {M : Type 1} → statement M
 put-denominator-spec =

@@ -5,9 +5,8 @@ use mathlib.Core.List.{List, _++_}
 use lib.ListN.{length}
 use Rattle.circuit.specs.declared.Gate.the-variants.{Cnot}
 use Rattle.circuit.specs.Gates.{Sound}
-use Rattle.listing.specs.declared.lines.Fraction.{Fraction}
 use Rattle.listing.specs.Text.{numbered}
-use Rattle.listing.specs.Fractions.{over}
+use Rattle.listing.specs.Fractions.{Fraction, over}
 use Rattle.listing.specs.Denominators.{denominatorText}
 use Rattle.listing.specs.Listing.{gateLine}
 use Rattle.listing.proofs.Writing.{Left, all-left, room, less-left, all-written, wrote-same}
