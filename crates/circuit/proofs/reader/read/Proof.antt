@@ -1,8 +1,12 @@
+use Prim.Native.Nat.{ℕ}
 use native.Mathlib.Omega.{arith}
 use mathlib.Core.Path.{refl}
 use mathlib.Core.Logic.{inl, inr}
+use lib.ListN.{drop}
+use Rattle.refusal.specs.Checks.{Outcome}
+use Rattle.refusal.proofs.Outcomes.{Reaches}
 use Rattle.refusal.specs.Names.{refusalAt, SHORT, MARK, VERSION, WIRES, COUNT, LENGTH, GATE}
-use Rattle.circuit.specs.File.{wiresOf}
+use Rattle.circuit.specs.File.{wiresOf, fileChecks}
 use Rattle.circuit.proofs.Checking.{refusing, answering, bad-gate, no-bad-gate}
 use borrow.Author.Needs.{needs}
 use Rattle.circuit.proofs.reader.read.Statement.{statement}
@@ -29,6 +33,31 @@ from6 c = from5 (c .before .before .before .before)
 
 abbrev from7 : tie.Else7 → tie.Start
 from7 c = from6 (c .before)
+
+-- what the checks behind it reach, they all reach
+abbrev Past : ℕ → tie.Start → Outcome → Type 0
+Past n s v = let cs = fileChecks (s .args .side) (s .args .file .now) in Reaches (drop n cs) v → Reaches cs v
+
+past1 : (c : tie.Else1) {v : Outcome} → Past 1 (from1 c) v
+past1 c h = inr (omega arith, h)
+
+past2 : (c : tie.Else2) {v : Outcome} → Past 2 (from2 c) v
+past2 c h = past1 (c .before .before .before .before .before) (inr (omega arith, h))
+
+past3 : (c : tie.Else3) {v : Outcome} → Past 3 (from3 c) v
+past3 c h = past2 (c .before .before .before .before) (inr (omega arith, h))
+
+past4 : (c : tie.Else4) {v : Outcome} → Past 4 (from4 c) v
+past4 c h = past3 (c .before .before) (inr (omega arith, h))
+
+past5 : (c : tie.Else5) {v : Outcome} → Past 5 (from5 c) v
+past5 c h = past4 (c .before) (inr (omega arith, h))
+
+past6 : (c : tie.Else6) {v : Outcome} → Past 6 (from6 c) v
+past6 c h = past5 (c .before .before .before .before) (inr (omega arith, h))
+
+past7 : (c : tie.Else7) {v : Outcome} → Past 7 (from7 c) v
+past7 c h = past6 (c .before) (inr (omega arith, h))
 
 refused-requires : tie.Need-refused-requires
 refused-requires c κs = search needs
@@ -58,7 +87,7 @@ returns-2 : tie.Need-returns-2
 returns-2 c =
     let a = from1 (c .before .before .before .before .before .before) .args in
     refusing (a .side) (a .file .now) (refusalAt MARK (a .side) 0) (c .refused2 .result) (c .refused2 .ensures)
-    (inr (omega arith, inl (omega arith, refl)))
+    (past1 (c .before .before .before .before .before .before) (inl (omega arith, refl)))
 
 shared-slice-read-word : tie.Need-shared-slice-read-word
 shared-slice-read-word c = search needs
@@ -76,7 +105,7 @@ returns-3 : tie.Need-returns-3
 returns-3 c =
     let a = from2 (c .before .before .before .before .before) .args in
     refusing (a .side) (a .file .now) (refusalAt VERSION (a .side) 0) (c .refused3 .result) (c .refused3 .ensures)
-    (inr (omega arith, inr (omega arith, inl (omega arith, refl))))
+    (past2 (c .before .before .before .before .before) (inl (omega arith, refl)))
 
 shared-slice-read-wires : tie.Need-shared-slice-read-wires
 shared-slice-read-wires c = search needs
@@ -88,7 +117,7 @@ returns-4 : tie.Need-returns-4
 returns-4 c =
     let a = from3 (c .before .before .before) .args in
     refusing (a .side) (a .file .now) (refusalAt WIRES (a .side) 0) (c .refused4 .result) (c .refused4 .ensures)
-    (inr (omega arith, inr (omega arith, inr (omega arith, inl (omega arith, refl)))))
+    (past3 (c .before .before .before) (inl (omega arith, refl)))
 
 refused-requires-5 : tie.Need-refused-requires-5
 refused-requires-5 c κs = search needs
@@ -97,7 +126,7 @@ returns-5 : tie.Need-returns-5
 returns-5 c =
     let a = from4 (c .before .before) .args in
     refusing (a .side) (a .file .now) (refusalAt WIRES (a .side) 0) (c .refused5 .result) (c .refused5 .ensures)
-    (inr (omega arith, inr (omega arith, inr (omega arith, inr (omega arith, inl (omega arith, refl))))))
+    (past4 (c .before .before) (inl (omega arith, refl)))
 
 shared-slice-read-word-3 : tie.Need-shared-slice-read-word-3
 shared-slice-read-word-3 c = search needs
@@ -118,7 +147,7 @@ returns-6 : tie.Need-returns-6
 returns-6 c =
     let a = from5 (c .before .before .before .before .before) .args in
     refusing (a .side) (a .file .now) (refusalAt COUNT (a .side) 0) (c .refused6 .result) (c .refused6 .ensures)
-    (inr (omega arith, inr (omega arith, inr (omega arith, inr (omega arith, inr (omega arith, inl (omega arith, refl)))))))
+    (past5 (c .before .before .before .before .before) (inl (omega arith, refl)))
 
 mul-if7 : tie.Need-mul-if7
 mul-if7 c = search needs
@@ -133,7 +162,7 @@ returns-7 : tie.Need-returns-7
 returns-7 c =
     let a = from6 (c .before .before) .args in
     refusing (a .side) (a .file .now) (refusalAt LENGTH (a .side) 0) (c .refused7 .result) (c .refused7 .ensures)
-    (inr (omega arith, inr (omega arith, inr (omega arith, inr (omega arith, inr (omega arith, inr (omega arith, inl (omega arith, refl))))))))
+    (past6 (c .before .before) (inl (omega arith, refl)))
 
 first-bad-requires : tie.Need-first-bad-requires
 first-bad-requires c κs = search needs
@@ -147,7 +176,7 @@ returns-8 c =
     let g = c .before .before .before .before .before .word2 in
     let b = c .before .before .first-bad in
     refusing (a .side) (a .file .now) (refusalAt GATE (a .side) (b .result)) (c .refused8 .result) (c .refused8 .ensures)
-    (inr (omega arith, inr (omega arith, inr (omega arith, inr (omega arith, inr (omega arith, inr (omega arith, inr (omega arith, bad-gate (a .side) (a .file .now) (g .result) (b .result) (g .ensures) (b .ensures) (c .before .if8 .taken)))))))))
+    (past7 (c .before .before .before) (bad-gate (a .side) (a .file .now) (g .result) (b .result) (g .ensures) (b .ensures) (c .before .if8 .taken)))
 
 returns-9 : tie.Need-returns-9
 returns-9 c =
@@ -155,7 +184,7 @@ returns-9 c =
     let g = c .before .before .before .before .word2 in
     let b = c .before .first-bad in
     answering (a .side) (a .file .now) (wiresOf (a .file .now)) (g .result) refl (g .ensures)
-    (inr (omega arith, inr (omega arith, inr (omega arith, inr (omega arith, inr (omega arith, inr (omega arith, inr (omega arith, no-bad-gate (a .side) (a .file .now) (g .result) (b .result) (g .ensures) (b .ensures) (c .if8 .left)))))))))
+    (past7 (c .before .before) (no-bad-gate (a .side) (a .file .now) (g .result) (b .result) (g .ensures) (b .ensures) (c .if8 .left)))
 
 pub read-spec : {M : Type 1} → statement M
 read-spec =
