@@ -9,7 +9,7 @@ ghost use Rattle.spectrum.specs.Spectrum.{angle};
 ghost use Rattle.build.specs.Construction.{minus};
 
 // The angle of each coefficient.
-pub fn write_angles(n: u8, coefficients: &[i32], out: &mut [u16])
+pub(crate) fn write_angles(n: u8, coefficients: &[i32], out: &mut [u16])
     requires { ⌜ n ≤ 8 ⌝ }
     requires { ⌜ length (now out) ≡ length (now coefficients) ⌝ }
     requires { ⌜ ((k : ℕ) → natAbs (getD (now coefficients) k (pos 0)) ≤ 256) ⌝ }
@@ -51,7 +51,7 @@ fn scaled(angle: u16, scale: u32) -> u16
 }
 
 // Each angle's opposite.
-pub fn write_opposites(angles: &[u16], out: &mut [u16])
+pub(crate) fn write_opposites(angles: &[u16], out: &mut [u16])
     requires { ⌜ length (now out) ≡ length (now angles) ⌝ }
     ensures { λ _. ⌜ now (out .exit) ≡ list (length (now (out .entry))) (λ k. minus (getD (now (angles .entry)) k 0)) ⌝ }
 {

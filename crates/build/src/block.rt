@@ -9,7 +9,7 @@ ghost use Rattle.circuit.specs.declared.Gate.the-variants.{Cnot, Phase};
 ghost use Rattle.build.specs.Gray.{turned as Gray·turned};
 ghost use Rattle.build.specs.Construction.{block as gatesOfBlock, variables as gatesOfVariables, firstQuarter};
 
-pub fn first_quarter(n: u8, out: &mut [u8], at: usize) -> usize
+pub(crate) fn first_quarter(n: u8, out: &mut [u8], at: usize) -> usize
     requires { ⌜ at + 4 ≤ length (now out) ⌝ }
     ensures { λ r. ⌜ (r ≡ at + 4) × (now (out .exit) ≡ putAt (bytesOf (firstQuarter n)) at (now (out .entry))) ⌝ }
 {
@@ -25,7 +25,7 @@ pub fn first_quarter(n: u8, out: &mut [u8], at: usize) -> usize
 }
 
 // The blocks of wires 0 to n - 1, each with the angles from 2^i on.
-pub fn variables(n: u8, angles: &[u16], out: &mut [u8], at: usize) -> usize
+pub(crate) fn variables(n: u8, angles: &[u16], out: &mut [u8], at: usize) -> usize
     requires { ⌜ n ≤ 8 ⌝ }
     requires { ⌜ 2 ^ n ≤ length (now angles) ⌝ }
     requires { ⌜ at + length (bytesOf (gatesOfVariables n (λ k. getD (now angles) k 0))) ≤ length (now out) ⌝ }
@@ -41,7 +41,7 @@ pub fn variables(n: u8, angles: &[u16], out: &mut [u8], at: usize) -> usize
 }
 
 // Wire i's block: for each Gray word a phase by the angle at base and the word, then a CNOT from the bit that turns.
-pub fn block(i: u8, angles: &[u16], base: usize, out: &mut [u8], at: usize) -> usize
+pub(crate) fn block(i: u8, angles: &[u16], base: usize, out: &mut [u8], at: usize) -> usize
     requires { ⌜ i ≤ 8 ⌝ }
     requires { ⌜ base + 2 ^ i ≤ length (now angles) ⌝ }
     requires { ⌜ at + length (bytesOf (gatesOfBlock i (λ v. getD (now angles) (base + v) 0))) ≤ length (now out) ⌝ }

@@ -31,7 +31,7 @@ fn refused(r: Refusal) -> [u64; 6]
     [r.number as u64, r.side as u64, r.position as u64, 0, 0, 0]
 }
 
-pub fn checked(answer: Checked) -> [u64; 6]
+pub(crate) fn checked(answer: Checked) -> [u64; 6]
     ensures { λ x. ⌜ x ≡ numbersOf (checkedSays answer) ⌝ }
 {
     match answer {
@@ -40,7 +40,7 @@ pub fn checked(answer: Checked) -> [u64; 6]
     }
 }
 
-pub fn transformed(answer: Transformed) -> [u64; 6]
+pub(crate) fn transformed(answer: Transformed) -> [u64; 6]
     ensures { λ x. ⌜ x ≡ numbersOf (transformedSays answer) ⌝ }
 {
     match answer {
@@ -49,7 +49,7 @@ pub fn transformed(answer: Transformed) -> [u64; 6]
     }
 }
 
-pub fn decoded(answer: Decoded) -> [u64; 6]
+pub(crate) fn decoded(answer: Decoded) -> [u64; 6]
     ensures { λ x. ⌜ x ≡ decodedNumbers answer ⌝ }
 {
     match answer {
@@ -70,7 +70,7 @@ fn gate_numbers(position: u64, gate: Gate) -> [u64; 6]
     }
 }
 
-pub fn reading(answer: Reading) -> [u64; 6]
+pub(crate) fn reading(answer: Reading) -> [u64; 6]
     ensures { λ x. ⌜ x ≡ numbersOf (readingSays answer) ⌝ }
 {
     match answer {
@@ -79,7 +79,7 @@ pub fn reading(answer: Reading) -> [u64; 6]
     }
 }
 
-pub fn ran(answer: Ran) -> [u64; 6]
+pub(crate) fn ran(answer: Ran) -> [u64; 6]
     ensures { λ x. ⌜ x ≡ numbersOf (ranSays answer) ⌝ }
 {
     match answer {
@@ -88,7 +88,7 @@ pub fn ran(answer: Ran) -> [u64; 6]
     }
 }
 
-pub fn counted(answer: Counted) -> [u64; 6]
+pub(crate) fn counted(answer: Counted) -> [u64; 6]
     ensures { λ x. ⌜ x ≡ numbersOf (countedSays answer) ⌝ }
 {
     match answer {
@@ -101,7 +101,7 @@ pub fn counted(answer: Counted) -> [u64; 6]
     }
 }
 
-pub fn built(answer: Built) -> [u64; 6]
+pub(crate) fn built(answer: Built) -> [u64; 6]
     ensures { λ x. ⌜ x ≡ numbersOf (builtSays answer) ⌝ }
 {
     match answer {
@@ -110,7 +110,7 @@ pub fn built(answer: Built) -> [u64; 6]
     }
 }
 
-pub fn folded(answer: Folded) -> [u64; 6]
+pub(crate) fn folded(answer: Folded) -> [u64; 6]
     ensures { λ x. ⌜ x ≡ numbersOf (foldedSays answer) ⌝ }
 {
     match answer {
@@ -123,7 +123,7 @@ pub fn folded(answer: Folded) -> [u64; 6]
     }
 }
 
-pub fn compared(answer: Compared) -> [u64; 6]
+pub(crate) fn compared(answer: Compared) -> [u64; 6]
     ensures { λ x. ⌜ x ≡ numbersOf (comparedSays answer) ⌝ }
 {
     match answer {
@@ -153,7 +153,7 @@ fn found(verdict: Verdict) -> [u64; 6]
     }
 }
 
-pub fn listed(answer: Listed) -> [u64; 6]
+pub(crate) fn listed(answer: Listed) -> [u64; 6]
     ensures { λ x. ⌜ x ≡ numbersOf (listedSays answer) ⌝ }
 {
     match answer {

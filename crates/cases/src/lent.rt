@@ -14,7 +14,7 @@ fn start(i: usize) -> u8 {
 }
 
 // The first `room` bytes filled.
-pub fn bytes(room: usize) -> Bytes {
+pub(crate) fn bytes(room: usize) -> Bytes {
     let mut lent = [0u8; 65536];
     if 65536 < room {
         return lent;
@@ -27,7 +27,7 @@ pub fn bytes(room: usize) -> Bytes {
     lent
 }
 
-pub fn work() -> Work {
+pub(crate) fn work() -> Work {
     let mut lent = [0u16; 1100];
     let mut i: usize = 0;
     while i < 1100 {
@@ -37,7 +37,7 @@ pub fn work() -> Work {
     lent
 }
 
-pub fn sums() -> Sums {
+pub(crate) fn sums() -> Sums {
     let mut lent = [0i32; 600];
     let mut i: usize = 0;
     while i < 600 {
@@ -56,7 +56,7 @@ fn put(bytes: &mut Bytes, i: usize, x: u16) {
 }
 
 // The first `end` bytes of the entries.
-pub fn print_work(lent: Work, end: usize) {
+pub(crate) fn print_work(lent: Work, end: usize) {
     let mut bytes = [0u8; 65536];
     let mut i: usize = 0;
     while i < 1100 {
@@ -68,7 +68,7 @@ pub fn print_work(lent: Work, end: usize) {
 
 // The sums in 16 bits each. One that needs more is shown as the nearest that fits, which no
 // spectrum has.
-pub fn in_16_bits(sums: Sums) -> Work {
+pub(crate) fn in_16_bits(sums: Sums) -> Work {
     let mut shown = [0u16; 1100];
     let mut i: usize = 0;
     while i < 600 {
@@ -91,7 +91,7 @@ fn clamped(x: u32) -> u16 {
 }
 
 // The first `end` bytes.
-pub fn print_bytes(bytes: Bytes, end: usize) {
+pub(crate) fn print_bytes(bytes: Bytes, end: usize) {
     if end <= 65536 {
         io::write_all(STDOUT_FILENO, b";");
         print::bytes(&bytes[0..end]);

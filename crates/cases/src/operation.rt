@@ -20,7 +20,7 @@ use table::Checked;
 use verdict::Compared;
 use verdict::Verdict;
 
-pub fn line(r: Request, first: &[u8], second: &[u8]) {
+pub(crate) fn line(r: Request, first: &[u8], second: &[u8]) {
     print::name(r.op);
     number(r.a as usize);
     number(r.b as usize);

@@ -7,18 +7,18 @@ use refusal::Refusal;
 const NAMES: [u8; 128] =
     *b"spectrumcheck   value   decode  gate_at read    run     count   build   fold    list    oracle  compare judge   unknown unknown ";
 
-pub fn name(op: u8) {
+pub(crate) fn name(op: u8) {
     let at = (op % 16) as usize * 8;
     io::write_all(STDOUT_FILENO, &NAMES[at..at + 8]);
 }
 
-pub fn number(n: usize) {
+pub(crate) fn number(n: usize) {
     io::write_all(STDOUT_FILENO, b" ");
     io::print_decimal(STDOUT_FILENO, n as u64);
 }
 
 // Few bytes in hexadecimal behind an x, many by their number and digest.
-pub fn bytes(data: &[u8]) {
+pub(crate) fn bytes(data: &[u8]) {
     if 16 < data.len() {
         number(data.len());
         io::write_all(STDOUT_FILENO, b" bytes ");
@@ -54,12 +54,12 @@ fn mixed(found: u32, b: u8) -> u32 {
 }
 
 // An answer's first value.
-pub fn answers(value: usize) {
+pub(crate) fn answers(value: usize) {
     io::write_all(STDOUT_FILENO, b": answers");
     number(value);
 }
 
-pub fn refused(r: Refusal) {
+pub(crate) fn refused(r: Refusal) {
     io::write_all(STDOUT_FILENO, b": refused");
     number(r.number as usize);
     io::write_all(STDOUT_FILENO, b" side");
@@ -69,7 +69,7 @@ pub fn refused(r: Refusal) {
 }
 
 // How many cases each operation had, and all together.
-pub fn totals(tally: &Tally, cases: usize) {
+pub(crate) fn totals(tally: &Tally, cases: usize) {
     let mut op: u8 = 0;
     while op < 14 {
         name(op);

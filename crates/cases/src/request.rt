@@ -1,33 +1,33 @@
 // Requests: a header of ten bytes, then two payloads.
 use libc::STDIN_FILENO;
 
-pub const SPECTRUM: u8 = 0;
+pub(crate) const SPECTRUM: u8 = 0;
 
-pub const CHECK: u8 = 1;
+pub(crate) const CHECK: u8 = 1;
 
-pub const VALUE: u8 = 2;
+pub(crate) const VALUE: u8 = 2;
 
-pub const DECODE: u8 = 3;
+pub(crate) const DECODE: u8 = 3;
 
-pub const GATE_AT: u8 = 4;
+pub(crate) const GATE_AT: u8 = 4;
 
-pub const READ: u8 = 5;
+pub(crate) const READ: u8 = 5;
 
-pub const RUN: u8 = 6;
+pub(crate) const RUN: u8 = 6;
 
-pub const COUNT: u8 = 7;
+pub(crate) const COUNT: u8 = 7;
 
-pub const BUILD: u8 = 8;
+pub(crate) const BUILD: u8 = 8;
 
-pub const FOLD: u8 = 9;
+pub(crate) const FOLD: u8 = 9;
 
-pub const LIST: u8 = 10;
+pub(crate) const LIST: u8 = 10;
 
-pub const ORACLE: u8 = 11;
+pub(crate) const ORACLE: u8 = 11;
 
-pub const COMPARE: u8 = 12;
+pub(crate) const COMPARE: u8 = 12;
 
-pub const JUDGE: u8 = 13;
+pub(crate) const JUDGE: u8 = 13;
 
 // How many cases each operation had.
 pub type Tally = [usize; 16];
@@ -47,7 +47,7 @@ pub struct Request {
     pub second: usize,
 }
 
-pub fn of(header: Header) -> Request {
+pub(crate) fn of(header: Header) -> Request {
     Request {
         op: header[0],
         a: header[1],
@@ -62,7 +62,7 @@ fn number(high: u8, low: u8) -> u16 {
     (high as u16) * 256 + (low as u16)
 }
 
-pub fn payload(length: usize) -> Payload {
+pub(crate) fn payload(length: usize) -> Payload {
     let mut bytes = [0u8; 8300];
     if length <= 8300 {
         io::read_full(STDIN_FILENO, &mut bytes[0..length]);

@@ -7,7 +7,7 @@ ghost use Prim.Native.Nat.{_+_, _*_};
 ghost use Rattle.circuit.specs.Gates.{decoded, cnotOf, phaseOf, gateSaid};
 
 // 16 bits, high byte first.
-pub fn word(high: u8, low: u8) -> u16
+pub(crate) fn word(high: u8, low: u8) -> u16
     ensures { λ r. ⌜ r ≡ high * 256 + low ⌝ }
 {
     (high as u16) * 256 + (low as u16)

@@ -58,7 +58,7 @@ fn four(file: &[u8], at: usize) -> u32
 }
 
 // 0 only where no gate is bad.
-pub fn count_bad(file: &[u8], w: u8, gates: usize) -> u32
+pub(crate) fn count_bad(file: &[u8], w: u8, gates: usize) -> u32
     requires { ⌜ (8 + 4 * gates ≤ length (now file)) × (gates ≤ 2048) × (w ≡ wiresOf (now file)) ⌝ }
     ensures { λ r. ⌜ (r ≡ 0 → firstBad (wiresOf (now (file .entry))) gates 0 (drop 8 (now (file .entry))) ≡ gates) ⌝ }
 {

@@ -4,18 +4,18 @@ use libc::STDOUT_FILENO;
 use refusal::Refusal;
 use verdict::Verdict;
 
-pub fn say(text: &[u8]) {
+pub(crate) fn say(text: &[u8]) {
     io::write_all(STDOUT_FILENO, text);
 }
 
 // A name, then a number.
-pub fn number(name: &[u8], x: usize) {
+pub(crate) fn number(name: &[u8], x: usize) {
     say(name);
     io::print_decimal(STDOUT_FILENO, x as u64);
 }
 
 // A line of numbers, each behind its name.
-pub fn numbers(names: &[u8], row: &[usize]) {
+pub(crate) fn numbers(names: &[u8], row: &[usize]) {
     let mut i: usize = 0;
     while i < row.len() {
         number(words::word(names, i), row[i]);
@@ -24,7 +24,7 @@ pub fn numbers(names: &[u8], row: &[usize]) {
     say(b"\n");
 }
 
-pub fn refused(r: Refusal) {
+pub(crate) fn refused(r: Refusal) {
     let names =
         b"\0 VARS\0 TABLE\0 PAD\0 SHORT\0 MARK\0 VERSION\0 WIRES\0 COUNT\0 LENGTH\0 GATE\0 STATE\0 UNLIKE\0 ROOM";
     let row = r.number as usize;
@@ -54,13 +54,13 @@ fn reason(row: usize) {
     say(words::word(reasons, row));
 }
 
-pub fn wrote(length: usize) {
+pub(crate) fn wrote(length: usize) {
     number(b"wrote ", length);
     say(b" bytes\n");
 }
 
 // The first numbers of a row, one a line.
-pub fn signed(row: &[i32], entries: usize) {
+pub(crate) fn signed(row: &[i32], entries: usize) {
     let mut i: usize = 0;
     while i < entries && i < row.len() {
         line(row[i]);
@@ -81,7 +81,7 @@ fn size(x: i32) -> u32 {
     if x < 0 { (-1 - x) as u32 + 1 } else { x as u32 }
 }
 
-pub fn verdict(found: Verdict) {
+pub(crate) fn verdict(found: Verdict) {
     match found {
         Verdict::Same => say(b"same\n"),
         Verdict::Different {
@@ -102,7 +102,7 @@ pub fn verdict(found: Verdict) {
 }
 
 // A line for each entry that is not 0.
-pub fn differences(work: &[u16]) {
+pub(crate) fn differences(work: &[u16]) {
     let mut state: usize = 0;
     while state < work.len() {
         difference(state, work[state]);
@@ -117,7 +117,7 @@ fn difference(state: usize, d: u16) {
     }
 }
 
-pub fn usage() {
+pub(crate) fn usage() {
     say(
         b"phg spectrum N TABLE                    the spectrum, one number a line
 phg build N TABLE OUT                   writes the circuit of the table's oracle

@@ -16,7 +16,7 @@ ghost use Prim.Native.Nat.{_≤_};
 ghost use lib.ListN.{length};
 
 // Its FILE is the word `first`.
-pub fn call(command: usize, line: &[u8], first: usize, errors: i32)
+pub(crate) fn call(command: usize, line: &[u8], first: usize, errors: i32)
     requires { ⌜ first ≤ 2 ⌝ }
 {
     let mut room = files::file_room();
@@ -91,13 +91,13 @@ fn fold(file: &[u8], name: &[u8], errors: i32) {
 }
 
 // Room for the coefficients of 10 wires.
-pub fn work_room() -> [u16; 1024]
+pub(crate) fn work_room() -> [u16; 1024]
     ensures { λ r. ⌜ 1024 ≡ length r ⌝ }
 {
     [0; 1024]
 }
 
-pub fn compared(found: Compared, differences: bool, work: &[u16]) {
+pub(crate) fn compared(found: Compared, differences: bool, work: &[u16]) {
     match found {
         Compared::Refused(r) => answers::refused(r),
         Compared::Found(verdict) => {

@@ -4,29 +4,29 @@ ghost use Prim.Native.Nat.{_≤_};
 ghost use Rattle.command.specs.Commands.{Numbered};
 
 // These take a table;
-pub const SPECTRUM: usize = 0;
+pub(crate) const SPECTRUM: usize = 0;
 
-pub const BUILD: usize = 1;
+pub(crate) const BUILD: usize = 1;
 
-pub const JUDGE: usize = 2;
+pub(crate) const JUDGE: usize = 2;
 
 // these a circuit file first.
-pub const COMPARE: usize = 3;
+pub(crate) const COMPARE: usize = 3;
 
-pub const LIST: usize = 4;
+pub(crate) const LIST: usize = 4;
 
-pub const READ: usize = 5;
+pub(crate) const READ: usize = 5;
 
-pub const RUN: usize = 6;
+pub(crate) const RUN: usize = 6;
 
-pub const COUNT: usize = 7;
+pub(crate) const COUNT: usize = 7;
 
-pub const FOLD: usize = 8;
+pub(crate) const FOLD: usize = 8;
 
-pub const HELP: usize = 9;
+pub(crate) const HELP: usize = 9;
 
 // The number of the command of that name: no name is help, and an unknown one is above it.
-pub fn numbered(name: &[u8]) -> usize
+pub(crate) fn numbered(name: &[u8]) -> usize
     ensures { λ r. ⌜ Numbered (now (name .entry)) r ⌝ }
 {
     if name.len() == 0 {
@@ -44,7 +44,7 @@ pub fn numbered(name: &[u8]) -> usize
 }
 
 // The place of the first word that is no option, given the word behind the command.
-pub fn first(command: usize, word: &[u8]) -> usize
+pub(crate) fn first(command: usize, word: &[u8]) -> usize
     ensures { λ r. ⌜ r ≤ 2 ⌝ }
 {
     if word.len() == 0 {
@@ -58,7 +58,7 @@ pub fn first(command: usize, word: &[u8]) -> usize
 }
 
 // Whether so many words follow the command's name, the first that is no option at that place.
-pub fn takes(command: usize, first: usize, others: usize) -> bool
+pub(crate) fn takes(command: usize, first: usize, others: usize) -> bool
     requires { ⌜ first ≤ 2 ⌝ }
 {
     match command {

@@ -1,14 +1,14 @@
 // What is wrong with the call itself, in one line that says what to write instead.
 use crate::words;
 
-pub fn write(errors: i32, word: &[u8], instead: &[u8]) {
+pub(crate) fn write(errors: i32, word: &[u8], instead: &[u8]) {
     io::write_all(errors, b"phg: ");
     io::write_all(errors, word);
     io::write_all(errors, instead);
     io::write_all(errors, b"\n");
 }
 
-pub fn unknown(errors: i32, name: &[u8]) {
+pub(crate) fn unknown(errors: i32, name: &[u8]) {
     write(
         errors,
         name,
@@ -17,7 +17,7 @@ pub fn unknown(errors: i32, name: &[u8]) {
 }
 
 // The words that a command takes.
-pub fn form(errors: i32, command: usize) {
+pub(crate) fn form(errors: i32, command: usize) {
     let forms = b"spectrum N TABLE\0\
         build N TABLE OUT\0\
         judge [--differences] N TABLE FILE\0\

@@ -36,7 +36,7 @@ fn digit(b: u8) -> u8
 }
 
 // Whether each byte is a digit of the base.
-pub fn are_digits(text: &[u8], base: u8) -> bool
+pub(crate) fn are_digits(text: &[u8], base: u8) -> bool
     ensures { λ r. ⌜ r ≡ allDigits base (now (text .entry)) ⌝ }
 {
     let mut i: usize = 0;
@@ -69,7 +69,7 @@ fn value(text: &[u8]) -> u16
     found
 }
 
-pub fn decimal(text: &[u8]) -> Number
+pub(crate) fn decimal(text: &[u8]) -> Number
     ensures { λ r. ⌜ r ≡ numberOf (now (text .entry)) ⌝ }
 {
     if text.len() == 0 {
@@ -82,14 +82,14 @@ pub fn decimal(text: &[u8]) -> Number
 }
 
 // The number as a byte, which stops at 255.
-pub fn narrow(x: u16) -> u8
+pub(crate) fn narrow(x: u16) -> u8
     ensures { λ r. ⌜ r ≡ min 255 x ⌝ }
 {
     if x < 255 { x as u8 } else { 255 }
 }
 
 // Whether the text is hexadecimal digits, two a byte.
-pub fn are_bytes(text: &[u8]) -> bool
+pub(crate) fn are_bytes(text: &[u8]) -> bool
     ensures { λ r. ⌜ r ≡ areBytes (now (text .entry)) ⌝ }
 {
     if text.len() % 2 == 0 {
@@ -106,7 +106,7 @@ fn pair(high: u8, low: u8) -> u8
 }
 
 // The bytes of hexadecimal digits, two a byte, at the front of out, as many as it has room for.
-pub fn put_bytes(text: &[u8], out: &mut [u8]) -> usize
+pub(crate) fn put_bytes(text: &[u8], out: &mut [u8]) -> usize
     ensures { λ r. ⌜ (r ≡ min (length (now (text .entry)) / 2) (length (now (out .entry)))) × (now (out .exit) ≡ take r (bytesOf (now (text .entry))) ++ drop r (now (out .entry))) ⌝ }
 {
     let mut i: usize = 0;

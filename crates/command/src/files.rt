@@ -17,21 +17,21 @@ pub enum Tabled {
 }
 
 // A file of 2,048 gates has 8,200 bytes, so that 8,201 decide.
-pub fn file_room() -> [u8; 8201]
+pub(crate) fn file_room() -> [u8; 8201]
     ensures { λ r. ⌜ 8201 ≡ length r ⌝ }
 {
     [0; 8201]
 }
 
 // The largest table has 32 bytes, so that 33 decide.
-pub fn table_room() -> [u8; 33]
+pub(crate) fn table_room() -> [u8; 33]
     ensures { λ r. ⌜ 33 ≡ length r ⌝ }
 {
     [0; 33]
 }
 
 // The first n bytes, or all.
-pub fn front(bytes: &[u8], n: usize) -> &[u8]
+pub(crate) fn front(bytes: &[u8], n: usize) -> &[u8]
     ensures { λ r. ⌜ now r ≡ take n (now (bytes .entry)) ⌝ }
 {
     if n < bytes.len() {
@@ -70,7 +70,7 @@ fn read(name: &[u8], room: &mut [u8]) -> Loaded {
     loaded
 }
 
-pub fn load(name: &[u8], room: &mut [u8], errors: i32) -> Loaded {
+pub(crate) fn load(name: &[u8], room: &mut [u8], errors: i32) -> Loaded {
     let loaded = read(name, room);
     if let Loaded::Failed = loaded {
         complaints::write(
@@ -98,7 +98,7 @@ fn load_table(word: &[u8], room: &mut [u8], errors: i32) -> Loaded {
     Loaded::Failed
 }
 
-pub fn number(word: &[u8], errors: i32) -> Number {
+pub(crate) fn number(word: &[u8], errors: i32) -> Number {
     let number = digits::decimal(word);
     if let Number::Bad = number {
         complaints::write(errors, word, b" is no number: write decimal digits");
@@ -107,7 +107,7 @@ pub fn number(word: &[u8], errors: i32) -> Number {
 }
 
 // The words N and TABLE.
-pub fn table(count: &[u8], digits: &[u8], room: &mut [u8], errors: i32) -> Tabled {
+pub(crate) fn table(count: &[u8], digits: &[u8], room: &mut [u8], errors: i32) -> Tabled {
     let Number::Is(n) = number(count, errors) else {
         return Tabled::Failed;
     };
@@ -134,7 +134,7 @@ fn written(name: &[u8], bytes: &[u8]) -> bool {
 }
 
 // Whether the file was written.
-pub fn store(name: &[u8], bytes: &[u8], errors: i32) -> bool {
+pub(crate) fn store(name: &[u8], bytes: &[u8], errors: i32) -> bool {
     let done = written(name, bytes);
     if !done {
         complaints::write(errors, name, b" can't be written: name a file that can");

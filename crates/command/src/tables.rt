@@ -11,7 +11,7 @@ use spectrum::Transformed;
 ghost use Prim.Native.Nat.{_≤_};
 
 // Its N and TABLE are the words from `first` on.
-pub fn call(command: usize, line: &[u8], first: usize, errors: i32)
+pub(crate) fn call(command: usize, line: &[u8], first: usize, errors: i32)
     requires { ⌜ first ≤ 2 ⌝ }
 {
     let mut room = files::table_room();

@@ -12,7 +12,7 @@ fn separates(b: u8) -> usize
 }
 
 // How many words follow the first.
-pub fn others(line: &[u8]) -> usize
+pub(crate) fn others(line: &[u8]) -> usize
     ensures { λ r. ⌜ r ≡ separators (now (line .entry)) ⌝ }
 {
     let mut found: usize = 0;
@@ -52,7 +52,7 @@ fn end(line: &[u8]) -> usize
 }
 
 // The word k, from 0; empty where there is none.
-pub fn word(line: &[u8], k: usize) -> &[u8]
+pub(crate) fn word(line: &[u8], k: usize) -> &[u8]
     ensures { λ r. ⌜ now r ≡ wordAt (now (line .entry)) k ⌝ }
 {
     let from = start(line, k);

@@ -8,7 +8,7 @@ ghost use Rattle.running.specs.Run.{nonzero};
 ghost use Rattle.fold.specs.Totals.{nonzeros, Totals};
 
 // The wrapped sum of each mask's group.
-pub fn totals_of(file: &[u8]) -> [u16; 1024]
+pub(crate) fn totals_of(file: &[u8]) -> [u16; 1024]
     requires { ⌜ outcome (fileChecks 0 (now file)) ≡ passed ⌝ }
     ensures { λ r. ⌜ Totals (now (file .entry)) r ⌝ }
 {
@@ -26,7 +26,7 @@ fn one_nonzero(total: u16) -> u16
 }
 
 // How many totals are not 0.
-pub fn count_nonzero(totals: &[u16]) -> u16
+pub(crate) fn count_nonzero(totals: &[u16]) -> u16
     requires { ⌜ length (now totals) ≤ 1024 ⌝ }
     ensures { λ r. ⌜ r ≡ nonzeros (now (totals .entry)) ⌝ }
 {

@@ -75,7 +75,7 @@ fn put_left(left: Left, out: &mut [u8], at: usize) -> usize
 }
 
 // Writes the folded gates behind the header.
-pub fn write_gates(file: &[u8], gates: usize, totals: &mut [u16; 1024], out: &mut [u8])
+pub(crate) fn write_gates(file: &[u8], gates: usize, totals: &mut [u16; 1024], out: &mut [u8])
     requires { ⌜ (outcome (fileChecks 0 (now file)) ≡ passed) × (gates ≡ countOf (now file)) ⌝ }
     requires { ⌜ Totals (now file) (now totals) ⌝ }
     requires { ⌜ 8 + length (bytesOf (folded (wiresOf (now file)) (gatesOf (now file)))) ≤ length (now out) ⌝ }

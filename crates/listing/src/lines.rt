@@ -23,7 +23,7 @@ const REGISTER: [u8; 7] = *b"qreg q[";
 const CLOSING: [u8; 3] = *b"];\n";
 
 // "*pi/D) q[" for D = 32,768, 16,384, .. 1: 16 rows of 13 bytes, the shorter filled up with spaces.
-pub const DENOMINATORS: [u8; 208] = *b"\
+pub(crate) const DENOMINATORS: [u8; 208] = *b"\
     *pi/32768) q[\
     *pi/16384) q[\
     *pi/8192) q[ \
@@ -59,7 +59,7 @@ fn put_last(word: &[u8], n: u16, out: &mut [u8], at: usize) -> usize
 }
 
 // The three header lines.
-pub fn put_head(wires: u8, out: &mut [u8], at: usize) -> usize
+pub(crate) fn put_head(wires: u8, out: &mut [u8], at: usize) -> usize
     requires { ⌜ at + length (headLines wires) ≤ length (now out) ⌝ }
     ensures { λ r. ⌜ Wrote (headLines wires) at (now (out .entry)) r (now (out .exit)) ⌝ }
 {
@@ -69,7 +69,7 @@ pub fn put_head(wires: u8, out: &mut [u8], at: usize) -> usize
 }
 
 // If wrapped, the h line on the last wire.
-pub fn put_wrap(wrapped: bool, wires: u8, out: &mut [u8], at: usize) -> usize
+pub(crate) fn put_wrap(wrapped: bool, wires: u8, out: &mut [u8], at: usize) -> usize
     requires { ⌜ 1 ≤ wires ⌝ }
     requires { ⌜ at + length (wrapLine wrapped wires) ≤ length (now out) ⌝ }
     ensures { λ r. ⌜ Wrote (wrapLine wrapped wires) at (now (out .entry)) r (now (out .exit)) ⌝ }
@@ -81,7 +81,7 @@ pub fn put_wrap(wrapped: bool, wires: u8, out: &mut [u8], at: usize) -> usize
 }
 
 // The length of a gate's line.
-pub fn line_length(gate: Gate) -> usize
+pub(crate) fn line_length(gate: Gate) -> usize
     requires { ⌜ Sound 10 gate ⌝ }
     ensures { λ r. ⌜ (r ≡ length (gateLine gate)) × (r ≤ 25) ⌝ }
 {
@@ -119,7 +119,7 @@ fn put_denominator(rows: &[u8], twos: u16, out: &mut [u8], at: usize) -> usize
 }
 
 // A gate's line. A piece of known length is one array, so that its bytes are stored several at a time.
-pub fn put_gate(gate: Gate, rows: &[u8], out: &mut [u8], at: usize) -> usize
+pub(crate) fn put_gate(gate: Gate, rows: &[u8], out: &mut [u8], at: usize) -> usize
     requires { ⌜ Sound 10 gate × Denominators (now rows) ⌝ }
     requires { ⌜ at + length (gateLine gate) ≤ length (now out) ⌝ }
     ensures { λ r. ⌜ Wrote (gateLine gate) at (now (out .entry)) r (now (out .exit)) ⌝ }

@@ -5,7 +5,7 @@ ghost use Prim.Native.Nat.{_+_, _/_, _%_, _≤_};
 ghost use lib.ListN.{length};
 ghost use Rattle.listing.specs.Text.{decimal, Wrote};
 
-pub fn put_text(text: &[u8], out: &mut [u8], at: usize) -> usize
+pub(crate) fn put_text(text: &[u8], out: &mut [u8], at: usize) -> usize
     requires { ⌜ at + length (now text) ≤ length (now out) ⌝ }
     ensures { λ r. ⌜ Wrote (now (text .entry)) at (now (out .entry)) r (now (out .exit)) ⌝ }
 {
@@ -26,7 +26,7 @@ fn digit(n: u16, tenth: u16) -> u8
 }
 
 // How many digits a number has.
-pub fn digits(n: u16) -> usize
+pub(crate) fn digits(n: u16) -> usize
     ensures { λ r. ⌜ (r ≡ length (decimal n)) × (r ≤ 5) ⌝ }
 {
     if n < 10 {
@@ -74,7 +74,7 @@ fn put_decimal(n: u16, out: &mut [u8], at: usize) -> usize
 }
 
 // A fixed word, then a number.
-pub fn put_numbered(word: &[u8], n: u16, out: &mut [u8], at: usize) -> usize
+pub(crate) fn put_numbered(word: &[u8], n: u16, out: &mut [u8], at: usize) -> usize
     requires { ⌜ at + length (now word ++ decimal n) ≤ length (now out) ⌝ }
     ensures { λ r. ⌜ Wrote (now (word .entry) ++ decimal n) at (now (out .entry)) r (now (out .exit)) ⌝ }
 {

@@ -21,7 +21,7 @@ ghost use Rattle.verdict.specs.Working.{gathered, weighed, Decided};
 
 // Two good files on `wires` wires. Coefficients are sums of angles, so that one row takes the first's and the second's
 // opposites.
-pub fn decide(first: &[u8], second: &[u8], wires: usize, work: &mut [u16]) -> Verdict
+pub(crate) fn decide(first: &[u8], second: &[u8], wires: usize, work: &mut [u16]) -> Verdict
     requires { ⌜ (outcome (fileChecks 0 (now first)) ≡ passed) × (outcome (fileChecks 0 (now second)) ≡ passed) ⌝ }
     requires { ⌜ (wires ≡ wiresOf (now first)) × (wires ≡ wiresOf (now second)) × (length (now work) ≡ 2 ^ wires) ⌝ }
     ensures { λ r. ⌜ Decided wires (circuit (gatesOf (now (first .entry)))) (circuit (gatesOf (now (second .entry)))) (coefficient wires (gatesOf (now (first .entry)))) (coefficient wires (gatesOf (now (second .entry)))) r (now (work .exit)) ⌝ }
@@ -37,7 +37,13 @@ pub fn decide(first: &[u8], second: &[u8], wires: usize, work: &mut [u16]) -> Ve
 }
 
 // A good file and the ideal of a table, wire n being the last. Below wire n's own set the ideal has no coefficients.
-pub fn decide_table(table: &[u8], file: &[u8], n: usize, wires: usize, work: &mut [u16]) -> Verdict
+pub(crate) fn decide_table(
+    table: &[u8],
+    file: &[u8],
+    n: usize,
+    wires: usize,
+    work: &mut [u16],
+) -> Verdict
     requires { ⌜ outcome (fileChecks 0 (now file)) ≡ passed ⌝ }
     requires { ⌜ (wires ≡ wiresOf (now file)) × (wires ≡ n + 1) × (n ≤ 8) × (length (now work) ≡ 2 ^ wires) ⌝ }
     ensures { λ r. ⌜ Decided wires (circuit (gatesOf (now (file .entry)))) (idealSide n (valueAt (now (table .entry)))) (coefficient wires (gatesOf (now (file .entry)))) (idealCoefficient n (valueAt (now (table .entry)))) r (now (work .exit)) ⌝ }

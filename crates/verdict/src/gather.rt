@@ -8,7 +8,7 @@ ghost use lib.ListN.{length};
 ghost use Rattle.verdict.specs.Working.{gathered, mixed, Added, inBlocks, Blocks};
 
 // Blocks are gathered, then two neighbours at a time made one, until one block is left.
-pub fn gather(v: &mut [u16], up: bool)
+pub(crate) fn gather(v: &mut [u16], up: bool)
     requires { ⌜ length (now v) ≤ 1024 ⌝ }
     ensures { λ _. ⌜ ((n : ℕ) → length (now (v .entry)) ≡ 2 ^ n → now (v .exit) ≡ gathered up n (now (v .entry))) ⌝ }
 {

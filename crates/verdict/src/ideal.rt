@@ -10,7 +10,7 @@ ghost use Rattle.verdict.specs.Coefficients.{difference, idealCoefficien
 ghost use Rattle.verdict.specs.Working.{entry};
 
 // A row of coefficients minus the ideal's, which are nothing in the lower half.
-pub fn subtract_ideal(table: &[u8], v: &mut [u16])
+pub(crate) fn subtract_ideal(table: &[u8], v: &mut [u16])
     requires { ⌜ (length (now v) ≤ 512) × (length (now v) % 2 ≡ 0) ⌝ }
     ensures { λ _. ⌜ ((n : ℕ) → length (now (v .entry)) ≡ 2 ^ suc n → now (v .exit) ≡ list (2 ^ suc n) (λ s. difference (entry (now (v .entry)) s) (idealCoefficient n (valueAt (now (table .entry))) s))) ⌝ }
 {

@@ -8,7 +8,7 @@ ghost use Rattle.verdict.specs.Coefficients.{difference};
 ghost use Rattle.verdict.specs.Working.{entry, endOf, Lowest, Place, Settled};
 
 // The verdict on a row of differences and the ends of the single-wire starts.
-pub fn settle(differences: &[u16], firsts: &[u16], seconds: &[u16]) -> Verdict
+pub(crate) fn settle(differences: &[u16], firsts: &[u16], seconds: &[u16]) -> Verdict
     requires { ⌜ length (now differences) ≡ 2 ^ length (now firsts) ⌝ }
     requires { ⌜ (length (now seconds) ≡ length (now firsts)) × (length (now firsts) ≤ 10) ⌝ }
     ensures { λ r. ⌜ Settled (now (differences .entry)) (now (firsts .entry)) (now (seconds .entry)) r ⌝ }
@@ -26,7 +26,7 @@ pub fn settle(differences: &[u16], firsts: &[u16], seconds: &[u16]) -> Verdict
 }
 
 // First minus second at each place.
-pub fn subtract(first: &mut [u16], second: &[u16])
+pub(crate) fn subtract(first: &mut [u16], second: &[u16])
     requires { ⌜ length (now second) ≡ length (now first) ⌝ }
     ensures { λ _. ⌜ now (first .exit) ≡ list (length (now (first .entry))) (λ s. difference (entry (now (first .entry)) s) (entry (now (second .entry)) s)) ⌝ }
 {

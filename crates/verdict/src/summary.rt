@@ -10,7 +10,7 @@ ghost use Rattle.verdict.specs.Coefficients.{difference};
 ghost use Rattle.verdict.specs.Working.{entry, column, SumsUp};
 
 // The angles of a good file's circuit added to the row, and where each wire's own start ends.
-pub fn sum_up(file: &[u8], row: &mut [u16; 1024], ends: &mut [u16])
+pub(crate) fn sum_up(file: &[u8], row: &mut [u16; 1024], ends: &mut [u16])
     requires { ⌜ outcome (fileChecks 0 (now file)) ≡ passed ⌝ }
     requires { ⌜ (length (now row) ≡ 1024) × (length (now ends) ≡ wiresOf (now file)) ⌝ }
     ensures { λ _. ⌜ SumsUp (now (file .entry)) (now (row .entry)) (now (row .exit)) ⌝ }
@@ -22,7 +22,7 @@ pub fn sum_up(file: &[u8], row: &mut [u16; 1024], ends: &mut [u16])
 }
 
 // Each entry's opposite.
-pub fn negate(v: &mut [u16])
+pub(crate) fn negate(v: &mut [u16])
     ensures { λ _. ⌜ now (v .exit) ≡ list (length (now (v .entry))) (λ s. difference 0 (entry (now (v .entry)) s)) ⌝ }
 {
     let mut s: usize = 0;
@@ -33,7 +33,7 @@ pub fn negate(v: &mut [u16])
     }
 }
 
-pub fn put_ends(masks: &[u16], ends: &mut [u16])
+pub(crate) fn put_ends(masks: &[u16], ends: &mut [u16])
     requires { ⌜ (length (now ends) ≤ 10) × (length (now ends) ≤ length (now masks)) ⌝ }
     ensures { λ _. ⌜ now (ends .exit) ≡ list (length (now (ends .entry))) (column (now (masks .entry)) (length (now (ends .entry)))) ⌝ }
 {

@@ -6,7 +6,7 @@ ghost use Rattle.numbers.specs.Sums.{list};
 ghost use Rattle.verdict.specs.Working.{entry, weightAt, weighed, Doubled};
 
 // Each sum by the weight of its set.
-pub fn weigh(v: &[u16], out: &mut [u16])
+pub(crate) fn weigh(v: &[u16], out: &mut [u16])
     requires { ⌜ (length (now out) ≡ length (now v)) × (length (now v) ≤ 1024) ⌝ }
     ensures { λ _. ⌜ now (out .exit) ≡ list (length (now (v .entry))) (weighed (now (v .entry))) ⌝ }
 {
