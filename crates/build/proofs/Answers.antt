@@ -21,7 +21,7 @@ use Rattle.table.specs.Table.{tableChecks, valueAt}
 use Rattle.spectrum.specs.Spectrum.{coefficient, spectrumOf, angle, theta}
 use Rattle.spectrum.proofs.Spectra.{length-spectrum}
 use Rattle.spectrum.proofs.Angles.{coefficient-size}
-use Rattle.circuit.specs.Gates.{putAt}
+use Rattle.circuit.specs.Bytes.{putAt}
 use Rattle.circuit.specs.File.{fileOf}
 use Rattle.circuit.proofs.Writing.{put-fits}
 use Rattle.build.specs.declared.Built.the-variants.{Length, Refused}

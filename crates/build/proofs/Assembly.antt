@@ -7,7 +7,8 @@ use lib.ListN.{length, length-append}
 use lib.Pow.{pow-add, pow-mono}
 use Rattle.numbers.proofs.Powers.{power-fits}
 use Rattle.circuit.specs.declared.Gate.{Gate}
-use Rattle.circuit.specs.Gates.{bytesOf, putAt}
+use Rattle.circuit.specs.Bytes.{putAt}
+use Rattle.circuit.specs.Gates.{bytesOf}
 use Rattle.circuit.specs.File.{headerBytes, fileOf}
 use Rattle.circuit.proofs.Decoding.{bytes-append, length-bytes}
 use Rattle.circuit.proofs.Writing.{put-put}

@@ -11,7 +11,8 @@ use lib.Bits.{bitXor}
 use lib.Pow.{pow-mono}
 use Rattle.circuit.specs.declared.Gate.{Gate}
 use Rattle.circuit.specs.declared.Gate.the-variants.{Cnot, Phase}
-use Rattle.circuit.specs.Gates.{gateBytes, bytesOf, putAt}
+use Rattle.circuit.specs.Bytes.{putAt}
+use Rattle.circuit.specs.Gates.{gateBytes, bytesOf}
 use Rattle.circuit.proofs.Decoding.{bytes-append, length-bytes}
 use Rattle.circuit.proofs.Writing.{put-put, put-sets, put-none, length-put}
 use Rattle.build.specs.Gray.{turned, word}

@@ -8,7 +8,7 @@ mod block;
 ghost use mathlib.Core.Path.{_≡_};
 ghost use Prim.Native.Nat.{_^_, _+_, _<_, _≤_};
 ghost use lib.ListN.{length, getD};
-ghost use Rattle.circuit.specs.Gates.{putAt};
+ghost use Rattle.circuit.specs.Bytes.{putAt};
 ghost use Rattle.circuit.specs.File.{fileOf};
 ghost use Rattle.build.specs.Construction.{parts, Builds};
 

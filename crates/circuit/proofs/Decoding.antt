@@ -14,11 +14,8 @@ use Rattle.circuit.specs.declared.Gate.{Gate}
 use Rattle.circuit.specs.declared.Gate.the-variants.{Cnot, Phase}
 use Rattle.circuit.specs.declared.Placed.{Placed}
 use Rattle.circuit.specs.declared.Decoded.the-variants.{Good, Bad}
+use Rattle.circuit.specs.Bytes.{Bytes}
 use Rattle.circuit.specs.Gates.{good, decoded, decodedAt, gateSaid, saidFrom, firstBad, gatesFrom, gateBytes, bytesOf, Sound, AllSound}
-
--- every entry is a byte
-abbrev pub Bytes : List ℕ → Type 0
-Bytes bs = (i : ℕ) → getD bs i 0 < 256
 
 pub bytes-drop : (n : ℕ) (bs : List ℕ) → Bytes bs → Bytes (drop n bs)
 bytes-drop n bs h i = rw (getD-drop n bs i 0) (h (n + i))

@@ -7,7 +7,7 @@ use Rattle.circuit.specs.declared.Gate.{Gate}
 use Rattle.circuit.specs.declared.Gate.the-variants.{Cnot, Phase}
 use Rattle.circuit.specs.Gates.{gateBytes, bytesOf, Sound, AllSound}
 use Rattle.circuit.specs.File.{headerBytes, fileOf}
-use Rattle.circuit.proofs.Decoding.{Bytes}
+use Rattle.circuit.specs.Bytes.{Bytes}
 
 none : Bytes []
 none i = omega arith

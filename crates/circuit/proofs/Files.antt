@@ -19,7 +19,8 @@ use Rattle.circuit.specs.declared.Reading.{Reading}
 use Rattle.circuit.specs.declared.Reading.the-variants.{Circuit, Refused}
 use Rattle.circuit.specs.Gates.{good, decoded, decodedAt, gateSaid, saidFrom, gateBytes, bytesOf, gatesFrom, firstBad, Sound, AllSound}
 use Rattle.circuit.specs.File.{markOf, versionOf, wiresOf, countOf, gatesOf, badOf, gateAt, fileChecks, fileOf, Reads}
-use Rattle.circuit.proofs.Decoding.{first-bad, first-good, Bytes, bytes-drop, Listed, listed, gate-at, bytes-said, said-gates, front, first-written, gates-written, length-bytes}
+use Rattle.circuit.specs.Bytes.{Bytes}
+use Rattle.circuit.proofs.Decoding.{first-bad, first-good, bytes-drop, Listed, listed, gate-at, bytes-said, said-gates, front, first-written, gates-written, length-bytes}
 
 -- the gate at i where its bytes lie in the file, byte by byte, and where they do not
 pub gate-inside : (f : List ℕ) (i : ℕ) → 12 + 4 * i ≤ length f

@@ -10,7 +10,7 @@ use Rattle.circuit.specs.declared.Gate.{Gate}
 use Rattle.circuit.specs.declared.Gate.the-variants.{Cnot, Phase}
 use Rattle.circuit.specs.Gates.{good, decoded, packed, GoodPacked, firstBad}
 use Rattle.circuit.specs.File.{wiresOf}
-use Rattle.circuit.proofs.Decoding.{Bytes}
+use Rattle.circuit.specs.Bytes.{Bytes}
 use Rattle.circuit.proofs.Files.{gate-inside, search-goes-on}
 
 -- what each test says where it answers 0, together

@@ -10,7 +10,8 @@ use lib.Seq.{sets, sets-eq, length-sets, length-take-le, take-at, drop-at}
 use borrow.Author.Tests.{le-leb, lt-leb}
 use Rattle.circuit.specs.declared.Gate.{Gate}
 use Rattle.circuit.specs.declared.Gate.the-variants.{Cnot, Phase}
-use Rattle.circuit.specs.Gates.{gateBytes, putAt}
+use Rattle.circuit.specs.Bytes.{putAt}
+use Rattle.circuit.specs.Gates.{gateBytes}
 use Rattle.circuit.specs.File.{headerBytes}
 
 pub put-fits : (bs : List ℕ) (at : ℕ) (out : List ℕ) → at + length bs ≤ length out → putAt bs at out ≡ take at out ++ bs ++ drop (at + length bs) out

@@ -75,10 +75,6 @@ unfoldable pub bytesOf : List Gate → List ℕ
 bytesOf [] = []
 bytesOf (g ∷ gs) = gateBytes g ++ bytesOf gs
 
--- bytes written at a place of a slice: all of them where they fit ("Success writes only the result"), else none
-abbrev pub putAt : List ℕ → ℕ → List ℕ → List ℕ
-putAt bs at out = cond (leb (at + length bs) (length out)) (take at out ++ bs ++ drop (at + length bs) out) out
-
 -- a gate that the decoder can answer on w wires
 abbrev pub Sound : ℕ → Gate → Type 0
 Sound w (Cnot c t) = (c < w) × (t < w) × (c ≡ t → ⊥)

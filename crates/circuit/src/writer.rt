@@ -2,7 +2,8 @@
 use crate::Gate;
 ghost use mathlib.Core.Path.{_≡_};
 ghost use mathlib.Core.List.{[], _∷_};
-ghost use Rattle.circuit.specs.Gates.{gateBytes, putAt};
+ghost use Rattle.circuit.specs.Bytes.{putAt};
+ghost use Rattle.circuit.specs.Gates.{gateBytes};
 ghost use Rattle.circuit.specs.File.{headerBytes};
 
 // Four bytes at `at`; where they do not all fit, nothing is written.

@@ -13,7 +13,7 @@ use Rattle.refusal.proofs.Outcomes.{reaches, then-refused, then-passed, front-p
 use Rattle.table.specs.Table.{tableChecks}
 use Rattle.table.proofs.Tables.{good-variables}
 use Rattle.circuit.specs.File.{wiresOf, gatesOf, fileChecks}
-use Rattle.circuit.proofs.Decoding.{Bytes}
+use Rattle.circuit.specs.Bytes.{Bytes}
 use Rattle.circuit.proofs.Files.{good-file, file-sound, length-gates, length-file}
 use Rattle.spectrum.specs.Spectrum.{spectrumChecks}
 use Rattle.build.specs.Construction.{buildChecks}

@@ -11,7 +11,7 @@ use Rattle.numbers.proofs.Turns.{≈-of, _≈∙_}
 use Rattle.refusal.specs.Checks.{passed, outcome}
 use Rattle.circuit.specs.Gates.{saidFrom}
 use Rattle.circuit.specs.File.{wiresOf, gatesOf, fileChecks}
-use Rattle.circuit.proofs.Decoding.{Bytes}
+use Rattle.circuit.specs.Bytes.{Bytes}
 use Rattle.running.specs.Masks.{ownMasks, firstMasks, sumMet, tallied}
 use Rattle.running.proofs.Masks.{zeros, own-below}
 use Rattle.running.proofs.Meetings.{sumMet-≈}

@@ -13,10 +13,10 @@ use Rattle.refusal.specs.Checks.{passed, refused, outcome}
 use Rattle.refusal.specs.Contract.{values}
 use Rattle.refusal.proofs.Contracts.{Distinct, same-refusal}
 use Rattle.refusal.proofs.Rooms.{earlier-refused, room-refused, room-enough}
-use Rattle.circuit.specs.Gates.{bytesOf, putAt}
+use Rattle.circuit.specs.Bytes.{putAt, Bytes}
+use Rattle.circuit.specs.Gates.{bytesOf}
 use Rattle.circuit.specs.File.{wiresOf, gatesOf, fileChecks, fileOf, headerBytes}
 use Rattle.running.specs.Run.{nonzero, cnots, score}
-use Rattle.circuit.proofs.Decoding.{Bytes}
 use Rattle.circuit.proofs.Files.{good-file}
 use Rattle.circuit.proofs.Writing.{put-fits, put-put}
 use Rattle.fold.specs.declared.Folded.{Folded}

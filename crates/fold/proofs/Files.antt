@@ -9,7 +9,7 @@ use Rattle.circuit.specs.declared.Gate.{Gate}
 use Rattle.circuit.specs.Gates.{AllSound}
 use Rattle.circuit.specs.File.{wiresOf, gatesOf, fileChecks, fileOf}
 use Rattle.running.specs.Run.{endFrom, phaseFrom, cnots, score}
-use Rattle.circuit.proofs.Decoding.{Bytes}
+use Rattle.circuit.specs.Bytes.{Bytes}
 use Rattle.circuit.proofs.Files.{good-file, file-sound, length-gates, wires-written, length-file, list-written, written-passes}
 use Rattle.fold.specs.Fold.{folded, foldedFile, cnotsOf}
 use Rattle.fold.proofs.Folding.{folded-sound, folded-shorter, folded-twice, same-cnots, same-end, same-phase}

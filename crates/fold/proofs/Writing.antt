@@ -11,10 +11,11 @@ use lib.Seq.{getD-set-same, getD-set-other, set-out}
 use Rattle.refusal.specs.Checks.{passed as allPassed, outcome}
 use Rattle.circuit.specs.declared.Gate.{Gate}
 use Rattle.circuit.specs.declared.Gate.the-variants.{Cnot, Phase}
-use Rattle.circuit.specs.Gates.{gateBytes, bytesOf, putAt, Sound}
+use Rattle.circuit.specs.Bytes.{putAt, Bytes}
+use Rattle.circuit.specs.Gates.{gateBytes, bytesOf, Sound}
 use Rattle.circuit.specs.File.{wiresOf, countOf, gatesOf, fileChecks}
 use Rattle.running.specs.Masks.{ownMasks, firstMasks, masksAfter, met, modulo}
-use Rattle.circuit.proofs.Decoding.{Bytes, bytes-one, bytes-append, length-bytes, sound-wider}
+use Rattle.circuit.proofs.Decoding.{bytes-one, bytes-append, length-bytes, sound-wider}
 use Rattle.circuit.proofs.Files.{good-file, file-sound, gates-end}
 use Rattle.running.proofs.Masks.{MasksBelow, first-alike, first-below, after-below}
 use Rattle.running.proofs.Stepping.{modulo-sound}

@@ -7,9 +7,8 @@ use mathlib.Core.Path.{_≡_, refl, sym, ap, ap₂, subst, _∙_}
 use mathlib.Core.List.{List, [], _∷_, _++_, append-assoc}
 use lib.ListN.{length, getD, take, drop, set, length-append, length-drop, take-append-drop, drop-of-length-le}
 use lib.Seq.{drop-cons, drop-drop, length-take-le, take-append-add, take-take}
-use Rattle.circuit.specs.Gates.{putAt}
+use Rattle.circuit.specs.Bytes.{putAt, Wrote}
 use Rattle.circuit.proofs.Writing.{put-fits, put-put, put-sets, take-put, drop-put, length-put}
-use Rattle.listing.specs.Text.{Wrote}
 
 -- `rest` is left of a text that goes to `start`, and it goes to `at`
 pub record Left (text : List ℕ) (start : ℕ) (before rest : List ℕ) (at : ℕ) (now : List ℕ) : Type 0 where

@@ -1,13 +1,10 @@
--- 01, "Listing": the bytes of fixed words and of numbers, and what a writer of text does.
+-- 01, "Listing": the bytes of fixed words and of numbers.
 use Prim.Native.Nat.{ℕ, zero, suc, _+_, _-_, _*_, _/_, _%_}
 use Prim.Native.Char.{code}
 use Prim.Native.String.{String, [] as nothing, _∷_ as _then_}
-use mathlib.Core.Path.{_≡_}
 use mathlib.Core.Bool.{cond}
 use mathlib.Core.List.{List, [], _∷_, _++_}
 use lib.Dec.{ltb}
-use lib.ListN.{length}
-use Rattle.circuit.specs.Gates.{putAt}
 
 -- a fixed word's bytes
 abbrev pub ascii : String → List ℕ
@@ -33,8 +30,3 @@ valueAfter v (d ∷ ds) = valueAfter (v * 10 + (d - 48)) ds
 -- a fixed word, then a number
 abbrev pub numbered : String → ℕ → List ℕ
 numbered s n = ascii s ++ decimal n
-
--- a text written at a place, and the place behind it
-pub record Wrote (text : List ℕ) (at : ℕ) (before : List ℕ) (behind : ℕ) (after : List ℕ) : Type 0 where
-  pub ends : behind ≡ at + length text
-  pub written : after ≡ putAt text at before

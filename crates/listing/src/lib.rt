@@ -14,7 +14,7 @@ ghost use lib.ListN.{length, drop};
 ghost use Rattle.refusal.specs.Checks.{outcome, passed};
 ghost use Rattle.circuit.specs.Gates.{Sound};
 ghost use Rattle.circuit.specs.File.{wiresOf, countOf, gatesOf, fileChecks};
-ghost use Rattle.listing.specs.Text.{Wrote};
+ghost use Rattle.circuit.specs.Bytes.{Wrote};
 ghost use Rattle.listing.specs.Listing.{headLines, wrapLine, gateLines, listingOfFile, Lists};
 
 pub enum Listed {

@@ -1,5 +1,5 @@
 -- 01, "Numbers and conventions": "Sums of angles wrap at 65,536, a full turn."
-use Prim.Native.Nat.{ℕ, zero, suc, _-_, _%_}
+use Prim.Native.Nat.{ℕ, zero, suc, _+_, _-_, _%_}
 use mathlib.Core.Path.{_≡_}
 use lib.IntN.{ℤ, pos, negsuc, negℤ}
 
@@ -7,6 +7,10 @@ use lib.IntN.{ℤ, pos, negsuc, negℤ}
 infix 50 _≈_
 pub record _≈_ (a b : ℕ) : Type 0 where
   pub turned : a % 65536 ≡ b % 65536
+
+-- "the first .. minus the second, wrapped"
+abbrev pub difference : ℕ → ℕ → ℕ
+difference a b = (a + 65536 - b) % 65536
 
 -- a whole number of units, of either sign, as an angle
 abbrev pub wrap : ℤ → ℕ

@@ -17,7 +17,7 @@ use Rattle.refusal.proofs.Rooms.{earlier-refused, refused-earlier, answers-whol
 use Rattle.table.specs.Table.{tableChecks, valueAt}
 use Rattle.table.proofs.Tables.{good-variables}
 use Rattle.circuit.specs.File.{fileChecks, wiresOf, gatesOf}
-use Rattle.circuit.proofs.Decoding.{Bytes}
+use Rattle.circuit.specs.Bytes.{Bytes}
 use Rattle.build.specs.declared.Built.{Built}
 use Rattle.build.specs.declared.Built.the-variants.{Length as BuiltLength, Refused as BuiltRefused}
 use Rattle.build.specs.Construction.{builtFile, builtSays, construction, Builds}

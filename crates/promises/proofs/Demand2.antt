@@ -18,7 +18,7 @@ use Rattle.spectrum.specs.Spectrum.{coefficient, spectrumOf, spectrumChecks, tr
 use Rattle.spectrum.proofs.Spectra.{length-spectrum}
 use Rattle.spectrum.proofs.Answers.{transformed-distinct}
 use Rattle.circuit.specs.File.{wiresOf, countOf, gatesOf, fileChecks}
-use Rattle.circuit.proofs.Decoding.{Bytes}
+use Rattle.circuit.specs.Bytes.{Bytes}
 use Rattle.running.specs.declared.Ran.{Ran}
 use Rattle.running.specs.declared.Ran.the-variants.{End}
 use Rattle.running.specs.declared.Counted.{Counted}

@@ -14,7 +14,7 @@ use Rattle.table.specs.Table.{tableChecks, valueAt}
 use Rattle.table.proofs.Tables.{good-variables}
 use Rattle.running.specs.Run.{endFrom, phaseFrom}
 use Rattle.circuit.specs.File.{wiresOf, gatesOf, fileChecks}
-use Rattle.circuit.proofs.Decoding.{Bytes}
+use Rattle.circuit.specs.Bytes.{Bytes}
 use Rattle.circuit.proofs.FileBytes.{file-bytes}
 use Rattle.build.specs.Construction.{construction, builtFile}
 use Rattle.build.proofs.Oracles.{built-passes, built-wires, built-run, few-gates}

@@ -13,7 +13,7 @@ use Rattle.numbers.proofs.Wires.{same-bits}
 use Rattle.refusal.specs.Checks.{passed, outcome}
 use Rattle.refusal.proofs.Passed.{passed-fail}
 use Rattle.table.specs.Table.{valueAt, tableChecks}
-use Rattle.circuit.proofs.Decoding.{Bytes}
+use Rattle.circuit.specs.Bytes.{Bytes}
 
 -- a byte whose bits from k on are none
 high-bits : (b k j : ℕ) → b / 2 ^ k ≡ 0 → k ≤ j → bit b j ≡ 0

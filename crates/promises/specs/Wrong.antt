@@ -29,7 +29,7 @@ use Rattle.verdict.specs.declared.Verdict.{Verdict}
 use Rattle.verdict.specs.declared.Verdict.the-variants.{Same, Different}
 use Rattle.verdict.specs.declared.Compared.{Compared}
 use Rattle.verdict.specs.declared.Compared.the-variants.{Found}
-use Rattle.verdict.specs.Coefficients.{difference}
+use Rattle.numbers.specs.Turn.{difference}
 use Rattle.verdict.specs.Verdicts.{Side, circuit, part}
 use Rattle.verdict.specs.Judging.{Compares, Judges}
 use Rattle.listing.specs.declared.Listed.{Listed}

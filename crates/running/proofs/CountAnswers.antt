@@ -11,7 +11,7 @@ use Rattle.running.specs.declared.Counted.the-variants.{Gates, Refused}
 use Rattle.circuit.specs.File.{countOf, gatesOf, fileChecks}
 use Rattle.running.specs.Run.{cnots, phases, score, Counts}
 use Rattle.running.proofs.Counts.{gates-counted}
-use Rattle.circuit.proofs.Decoding.{Bytes}
+use Rattle.circuit.specs.Bytes.{Bytes}
 use Rattle.circuit.proofs.Files.{good-file, length-gates}
 
 pub record Tallied (f : List ℕ) (c p s : ℕ) : Type 0 where

@@ -15,7 +15,8 @@ use Rattle.circuit.specs.Gates.{packed}
 use Rattle.circuit.specs.File.{wiresOf, countOf, gatesOf, fileChecks}
 use Rattle.running.specs.Run.{stepped, added, endFrom, totalFrom, phaseFrom, nonzero, cnots, phases, score}
 use Rattle.running.proofs.Counts.{cnots-cons, score-cons, one-counted, gates-counted}
-use Rattle.circuit.proofs.Decoding.{Bytes, sound-wider}
+use Rattle.circuit.specs.Bytes.{Bytes}
+use Rattle.circuit.proofs.Decoding.{sound-wider}
 use Rattle.circuit.proofs.Files.{GoodFile, good-file, length-gates, gate-read, gates-end}
 use Rattle.running.proofs.Runs.{end-cons, end-none, total-cons, total-none, stepped-below}
 use Rattle.running.proofs.Stepping.{held, turned, packed-turns, packed-steps, packed-cnots, packed-scores}

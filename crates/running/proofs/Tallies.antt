@@ -18,7 +18,8 @@ use Rattle.circuit.specs.declared.Gate.the-variants.{Cnot, Phase}
 use Rattle.circuit.specs.Gates.{saidFrom, AllSound}
 use Rattle.refusal.specs.Checks.{passed, outcome}
 use Rattle.circuit.specs.File.{wiresOf, gatesOf, fileChecks}
-use Rattle.circuit.proofs.Decoding.{Bytes, sound-wider, said-none, said-cons}
+use Rattle.circuit.specs.Bytes.{Bytes}
+use Rattle.circuit.proofs.Decoding.{sound-wider, said-none, said-cons}
 use Rattle.circuit.proofs.Files.{GoodFile, good-file, file-sound, file-said, saidAt}
 use Rattle.running.specs.Masks.{Met, Mixed, Mask, ownMasks, firstMasks, masksAfter, met, masksFrom, sumMet, addMet, modulo, masksBy, tallied}
 use Rattle.running.proofs.Masks.{MasksBelow, own-below, after-below, length-after, Alike, first-alike, alike-after}

@@ -18,7 +18,8 @@ use Rattle.verdict.specs.declared.Verdict.{Verdict}
 use Rattle.verdict.specs.declared.Verdict.the-variants.{Same, Different}
 use Rattle.verdict.specs.declared.Compared.{Compared}
 use Rattle.verdict.specs.declared.Compared.the-variants.{Found, Refused}
-use Rattle.verdict.specs.Coefficients.{coefficient, idealCoefficient, difference, differences}
+use Rattle.numbers.specs.Turn.{difference}
+use Rattle.verdict.specs.Coefficients.{coefficient, idealCoefficient, differences}
 use Rattle.verdict.specs.Verdicts.{Side, circuit, ideal, verdict}
 use Rattle.verdict.specs.Judging.{verdictValues, comparedSays, workChecks, Compares, Judges}
 use Rattle.verdict.specs.Working.{Decided}

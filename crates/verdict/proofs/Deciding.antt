@@ -20,11 +20,12 @@ use Rattle.refusal.specs.Checks.{passed, outcome}
 use Rattle.circuit.specs.Gates.{AllSound}
 use Rattle.circuit.specs.File.{wiresOf, gatesOf, fileChecks}
 use Rattle.running.specs.Run.{endFrom}
-use Rattle.circuit.proofs.Decoding.{Bytes}
+use Rattle.circuit.specs.Bytes.{Bytes}
 use Rattle.circuit.proofs.Files.{good-file, file-sound}
 use Rattle.verdict.specs.declared.Verdict.{Verdict}
 use Rattle.verdict.specs.declared.Verdict.the-variants.{Same, Different}
-use Rattle.verdict.specs.Coefficients.{coefficient, difference, differences}
+use Rattle.numbers.specs.Turn.{difference}
+use Rattle.verdict.specs.Coefficients.{coefficient, differences}
 use Rattle.verdict.specs.Verdicts.{Side, circuit, verdictAt, verdict}
 use Rattle.running.specs.Masks.{firstMasks}
 use Rattle.verdict.proofs.Ends.{own-column}

@@ -8,7 +8,7 @@ use borrow.Author.Tests.{lt-ltb, le-ltb, eq-eqb, ne-eqb}
 use Rattle.numbers.specs.Search.{least}
 use Rattle.numbers.proofs.Search.{least-found}
 use Rattle.verdict.specs.declared.Verdict.the-variants.{Same, Different}
-use Rattle.verdict.specs.Coefficients.{difference}
+use Rattle.numbers.specs.Turn.{difference}
 use Rattle.verdict.specs.Verdicts.{Side, part, verdictAt, verdict}
 use Rattle.verdict.specs.Working.{Lowest}
 

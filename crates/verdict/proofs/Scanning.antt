@@ -9,12 +9,11 @@ use lib.Bits.{bitXor}
 use lib.Pow.{pow-lt, pow-mono}
 use Rattle.numbers.specs.Bits.{bit, subset}
 use Rattle.numbers.specs.Sums.{sum}
-use Rattle.numbers.specs.Turn.{_≈_}
+use Rattle.numbers.specs.Turn.{_≈_, difference}
 use Rattle.numbers.proofs.Sums.{ℕ-adds, sumOf-ext, sumOf-split}
 use Rattle.numbers.proofs.Subsets.{subset-self, subset-above, sum-zero}
 use Rattle.numbers.proofs.Turns.{≈-of, ≈-sym, ≈-add, ≈-refl, ≈-cancel, ≈-small, _≈∙_}
 use Rattle.numbers.proofs.Digits.{by-bits}
-use Rattle.verdict.specs.Coefficients.{difference}
 use Rattle.verdict.specs.Verdicts.{Side}
 use Rattle.verdict.specs.Working.{Lowest, Place}
 use Rattle.verdict.proofs.Lowest.{Agree}

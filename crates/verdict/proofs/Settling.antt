@@ -13,7 +13,7 @@ use borrow.Author.Tests.{lt-ltb, le-ltb}
 use Rattle.numbers.specs.Bits.{bit}
 use Rattle.numbers.specs.Sums.{sumOf}
 use Rattle.verdict.specs.declared.Verdict.the-variants.{Same, Different}
-use Rattle.verdict.specs.Coefficients.{difference}
+use Rattle.numbers.specs.Turn.{difference}
 use Rattle.verdict.specs.Working.{entry, endOf, Lowest, Place, Settled}
 
 -- wrapping subtraction

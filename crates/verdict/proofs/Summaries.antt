@@ -11,7 +11,7 @@ use lib.Seq.{length-take-le, take-at}
 use lib.Pow.{pow-mono}
 use Rattle.numbers.specs.Bits.{equal, subset}
 use Rattle.numbers.specs.Sums.{sum, list}
-use Rattle.numbers.specs.Turn.{_≈_}
+use Rattle.numbers.specs.Turn.{_≈_, difference}
 use Rattle.numbers.proofs.Sums.{ℕ-adds, sumOf-plus}
 use Rattle.numbers.proofs.Lists.{getD-list, list-ext}
 use Rattle.numbers.proofs.Angles.{≈-sum}
@@ -22,12 +22,12 @@ use Rattle.circuit.specs.Gates.{saidFrom}
 use Rattle.circuit.specs.File.{wiresOf, gatesOf, fileChecks}
 use Rattle.running.specs.Run.{endFrom}
 use Rattle.running.specs.Masks.{ownMasks, firstMasks, sumMet, masksBy, tallied}
-use Rattle.circuit.proofs.Decoding.{Bytes}
+use Rattle.circuit.specs.Bytes.{Bytes}
 use Rattle.circuit.proofs.Files.{good-file, file-sound}
 use Rattle.running.proofs.Masks.{own-below}
 use Rattle.running.proofs.Meetings.{collected}
 use Rattle.running.proofs.Tallies.{length-by, length-tallied, tallied-small, file-tallied, file-masks}
-use Rattle.verdict.specs.Coefficients.{coefficient, idealCoefficient, difference, differences}
+use Rattle.verdict.specs.Coefficients.{coefficient, idealCoefficient, differences}
 use Rattle.verdict.specs.Working.{entry, angleAt, SumsUp, gathered, weightOf, weighed, column}
 use Rattle.verdict.proofs.Polynomials.{sumAt, coefficient-weight, coefficient-below}
 use Rattle.verdict.proofs.Gathering.{sumAround, entry-gathered, gathered-front}

@@ -15,7 +15,8 @@ use Rattle.numbers.proofs.Lists.{length-list, getD-list, is-list, list-ext, lis
 use Rattle.numbers.proofs.Rows.{end-part, end-put}
 use Rattle.numbers.proofs.Subsets.{sum-scale}
 use Rattle.table.specs.Table.{valueAt}
-use Rattle.verdict.specs.Coefficients.{difference, idealCoefficient}
+use Rattle.numbers.specs.Turn.{difference}
+use Rattle.verdict.specs.Coefficients.{idealCoefficient}
 use Rattle.verdict.specs.Working.{entry, gathered}
 use Rattle.verdict.proofs.Ideals.{below-mark, with-mark}
 

@@ -4,6 +4,7 @@ use mathlib.Core.List.{List}
 use lib.Count.{ones}
 use Rattle.numbers.specs.Bits.{bit, subset}
 use Rattle.numbers.specs.Sums.{sum, list}
+use Rattle.numbers.specs.Turn.{difference}
 use Rattle.circuit.specs.declared.Gate.{Gate}
 use Rattle.running.specs.Masks.{ownMasks, sumMet}
 
@@ -15,10 +16,6 @@ coefficient w gs (suc s) = 65534 ^ (ones (suc s) - 1) * sumMet (λ m a. subset (
 -- "0 where S lacks wire n, else 32,768 times the number of x with f(x) = 1 whose one bits all lie in S, wrapped"
 unfoldable pub idealCoefficient : ℕ → (ℕ → ℕ) → ℕ → ℕ
 idealCoefficient n f s = bit s n * (32768 * sum (2 ^ n) (λ x. f x * subset x s) % 65536)
-
--- "the first .. minus the second, wrapped"
-abbrev pub difference : ℕ → ℕ → ℕ
-difference a b = (a + 65536 - b) % 65536
 
 -- "entries 0 to 2^w - 1 of the work slice .. hold first coefficient minus second"
 unfoldable pub differences : ℕ → (ℕ → ℕ) → (ℕ → ℕ) → List ℕ

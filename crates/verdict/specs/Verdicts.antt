@@ -9,7 +9,7 @@ use Rattle.circuit.specs.declared.Gate.{Gate}
 use Rattle.running.specs.Run.{endFrom, phaseFrom}
 use Rattle.verdict.specs.declared.Verdict.{Verdict}
 use Rattle.verdict.specs.declared.Verdict.the-variants.{Same, Different}
-use Rattle.verdict.specs.Coefficients.{difference}
+use Rattle.numbers.specs.Turn.{difference}
 
 -- what is compared: where a start ends, and with which phase
 pub record Side : Type 0 where

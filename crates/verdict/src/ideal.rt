@@ -6,7 +6,8 @@ ghost use Prim.Native.Nat.{ℕ, suc, _+_, _*_, _%_, _^_, _≤_, _<_};
 ghost use lib.ListN.{length};
 ghost use Rattle.numbers.specs.Sums.{list};
 ghost use Rattle.table.specs.Table.{valueAt};
-ghost use Rattle.verdict.specs.Coefficients.{difference, idealCoefficient};
+ghost use Rattle.numbers.specs.Turn.{difference};
+ghost use Rattle.verdict.specs.Coefficients.{idealCoefficient};
 ghost use Rattle.verdict.specs.Working.{entry};
 
 // A row of coefficients minus the ideal's, which are nothing in the lower half.

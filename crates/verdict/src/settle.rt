@@ -4,7 +4,7 @@ ghost use mathlib.Core.Path.{_≡_};
 ghost use Prim.Native.Nat.{ℕ, _*_, _^_, _≤_, _<_};
 ghost use lib.ListN.{length};
 ghost use Rattle.numbers.specs.Sums.{list};
-ghost use Rattle.verdict.specs.Coefficients.{difference};
+ghost use Rattle.numbers.specs.Turn.{difference};
 ghost use Rattle.verdict.specs.Working.{entry, endOf, Lowest, Place, Settled};
 
 // The verdict on a row of differences and the ends of the single-wire starts.

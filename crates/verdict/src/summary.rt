@@ -6,7 +6,7 @@ ghost use Rattle.numbers.specs.Sums.{list};
 ghost use Rattle.refusal.specs.Checks.{outcome, passed};
 ghost use Rattle.circuit.specs.File.{wiresOf, gatesOf, fileChecks};
 ghost use Rattle.running.specs.Run.{endFrom};
-ghost use Rattle.verdict.specs.Coefficients.{difference};
+ghost use Rattle.numbers.specs.Turn.{difference};
 ghost use Rattle.verdict.specs.Working.{entry, column, SumsUp};
 
 // The angles of a good file's circuit added to the row, and where each wire's own start ends.

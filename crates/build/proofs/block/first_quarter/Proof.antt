@@ -2,7 +2,7 @@ use Prim.Native.Nat.{ℕ}
 use mathlib.Core.Path.{refl, sym, ap, _∙_}
 use mathlib.Core.List.{List}
 use Rattle.circuit.specs.declared.Gate.the-variants.{Phase}
-use Rattle.circuit.specs.Gates.{putAt}
+use Rattle.circuit.specs.Bytes.{putAt}
 use Rattle.circuit.proofs.Decoding.{bytes-one}
 use borrow.Author.Needs.{needs}
 use Rattle.build.proofs.block.first_quarter.Statement.{statement}

@@ -1,7 +1,7 @@
 use mathlib.Core.Path.{ap, _∙_}
 use mathlib.Core.List.{List}
 use Prim.Native.Nat.{ℕ}
-use Rattle.circuit.specs.Gates.{putAt}
+use Rattle.circuit.specs.Bytes.{putAt}
 use Rattle.circuit.proofs.Writing.{four-read}
 use borrow.Author.Needs.{needs}
 use Rattle.circuit.proofs.writer.put_gate.Statement.{statement}

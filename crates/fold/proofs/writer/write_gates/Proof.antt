@@ -4,7 +4,8 @@ use mathlib.Core.Path.{_≡_, refl, _∙_}
 use mathlib.Core.List.{List}
 use lib.ListN.{length}
 use borrow.Author.Needs.{needs}
-use Rattle.circuit.specs.Gates.{bytesOf, putAt}
+use Rattle.circuit.specs.Bytes.{putAt}
+use Rattle.circuit.specs.Gates.{bytesOf}
 use Rattle.circuit.specs.File.{wiresOf, gatesOf}
 use Rattle.circuit.proofs.Files.{GoodFile, good-file, gate-said, saidAt}
 use Rattle.fold.specs.Fold.{folded}

@@ -2,7 +2,8 @@ use Prim.Native.Nat.{ℕ, _-_}
 use native.Mathlib.Omega.{arith}
 use mathlib.Core.Path.{subst}
 use mathlib.Core.List.{List, _++_}
-use Rattle.listing.specs.Text.{numbered, Wrote}
+use Rattle.circuit.specs.Bytes.{Wrote}
+use Rattle.listing.specs.Text.{numbered}
 use Rattle.listing.specs.Listing.{closing, wrapLine}
 use Rattle.listing.proofs.Writing.{Left, all-written, wrote-nothing}
 use Rattle.listing.proofs.Pieces.{wrap-left, not-wrapped}

@@ -4,7 +4,7 @@ use mathlib.Core.List.{List}
 use lib.ListN.{length, length-set}
 use Rattle.numbers.proofs.Lists.{filled, fill-again, fill-ends}
 use Rattle.numbers.proofs.Rows.{filled-at}
-use Rattle.verdict.specs.Coefficients.{difference}
+use Rattle.numbers.specs.Turn.{difference}
 use Rattle.verdict.specs.Working.{entry}
 use Rattle.verdict.proofs.Settling.{subtracted}
 use native.Mathlib.Omega.{arith}

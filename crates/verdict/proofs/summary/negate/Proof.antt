@@ -6,7 +6,7 @@ use lib.ListN.{length, length-set}
 use borrow.Author.Needs.{needs}
 use Rattle.numbers.proofs.Lists.{filled, fill-again, fill-ends}
 use Rattle.numbers.proofs.Rows.{filled-at}
-use Rattle.verdict.specs.Coefficients.{difference}
+use Rattle.numbers.specs.Turn.{difference}
 use Rattle.verdict.specs.Working.{entry}
 use Rattle.verdict.proofs.Settling.{subtracted}
 use Rattle.verdict.proofs.summary.negate.Statement.{statement}
