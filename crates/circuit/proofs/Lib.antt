@@ -4,4 +4,5 @@ pub mod Packing
 pub mod Answers
 mod Checking
 pub mod Writing
+pub mod Parts
 pub mod FileBytes

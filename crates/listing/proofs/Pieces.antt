@@ -17,7 +17,7 @@ use Rattle.listing.specs.Fractions.{Fraction, fractionOf}
 use Rattle.listing.specs.Listing.{versionLine, includeLine, closing, headLines, wrapLine, cnotLine, phaseLine, gateLine, gateLines, listingOf, listingOfFile}
 use Rattle.listing.proofs.Decimals.{decimal-small, one-digit, two-digits, five-digits}
 use Rattle.listing.proofs.Fractions.{denominator-most, fraction-equals}
-use Rattle.listing.proofs.Writing.{Left, all-left}
+use Rattle.circuit.proofs.Parts.{Left, all-left}
 
 -- ---- what is left of a line, from its start
 

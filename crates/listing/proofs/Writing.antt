@@ -8,52 +8,8 @@ use mathlib.Core.List.{List, [], _∷_, _++_, append-assoc}
 use lib.ListN.{length, getD, take, drop, set, length-append, length-drop, take-append-drop, drop-of-length-le}
 use lib.Seq.{drop-cons, drop-drop, length-take-le, take-append-add, take-take}
 use Rattle.circuit.specs.Bytes.{putAt, Wrote}
-use Rattle.circuit.proofs.Writing.{put-fits, put-put, put-sets, take-put, drop-put, length-put}
-
--- `rest` is left of a text that goes to `start`, and it goes to `at`
-pub record Left (text : List ℕ) (start : ℕ) (before rest : List ℕ) (at : ℕ) (now : List ℕ) : Type 0 where
-  pub long : length now ≡ length before
-  pub fits : at + length rest ≤ length now
-  pub ends : at + length rest ≡ start + length text
-  pub done : putAt rest at now ≡ putAt text start before
-
-pub all-left : {text rest : List ℕ} (at : ℕ) (out : List ℕ) → text ≡ rest → at + length text ≤ length out → Left text at out rest at out
-all-left {text} at out e h = subst (λ (r : List ℕ). Left text at out r at out) e (record { long = refl; fits = h; ends = refl; done = refl })
-
-module _ {text : List ℕ} {start : ℕ} {before : List ℕ} {at : ℕ} {now : List ℕ} (t rest : List ℕ) (l : Left text start before (t ++ rest) at now) where
-  pub room : at + length t ≤ length now
-  room = omega (arith, l .fits, length-append t rest)
-
-  pub less-left : {behind : ℕ} {after : List ℕ} → Wrote t at now behind after → Left text start before rest behind after
-  less-left {behind} {after} w =
-      let k = length-append t rest in
-      let same : length after ≡ length now = ap length (w .written) ∙ length-put t at now room in
-      record {
-        long = same ∙ l .long;
-        fits = omega (arith, l .fits, w .ends);
-        ends = omega (arith, l .ends, w .ends);
-        done = ap₂ (λ (n : ℕ) (o : List ℕ). putAt rest n o) (w .ends) (w .written) ∙ put-put t rest at now (l .fits) ∙ l .done;
-      }
-
-module _ {text : List ℕ} {start : ℕ} {before : List ℕ} {at : ℕ} {now : List ℕ} where
-  pub all-written : {t : List ℕ} {behind : ℕ} {after : List ℕ} → Left text start before t at now → Wrote t at now behind after → Wrote text start before behind after
-  all-written l w = record { ends = w .ends ∙ l .ends; written = w .written ∙ l .done }
-
-  pub none-left : {rest : List ℕ} → rest ≡ [] → Left text start before rest at now → Wrote text start before at now
-  none-left e l =
-      let m : Left text start before [] at now = subst (λ (r : List ℕ). Left text start before r at now) e l in
-      record { ends = sym (add-zero at) ∙ m .ends; written = sym (put-sets [] at now (m .fits)) ∙ m .done }
-
--- the same text, said otherwise
-pub wrote-same : {t u : List ℕ} {at : ℕ} {before : List ℕ} {behind : ℕ} {after : List ℕ} → t ≡ u → Wrote t at before behind after → Wrote u at before behind after
-wrote-same {at = at} {before} {behind} {after} e w = subst (λ (r : List ℕ). Wrote r at before behind after) e w
-
-pub room-same : {t u : List ℕ} (at : ℕ) (out : List ℕ) → t ≡ u → at + length u ≤ length out → at + length t ≤ length out
-room-same at out e h = rw e h
-
--- nothing is written
-pub wrote-nothing : (at : ℕ) (out : List ℕ) → at ≤ length out → Wrote [] at out at out
-wrote-nothing at out h = record { ends = sym (add-zero at); written = sym (put-sets [] at out (omega arith)) }
+use Rattle.circuit.proofs.Writing.{put-fits, take-put, drop-put, length-put}
+use Rattle.circuit.proofs.Parts.{Left, all-left, less-left, none-left, wrote-one}
 
 -- the first b bytes of a text, then all from a on over some of these
 put-over : (text : List ℕ) (a b at : ℕ) (out : List ℕ) → a ≤ b → b ≤ length text → at + length text ≤ length out → putAt (drop a text) (at + a) (putAt (take b text) at out) ≡ putAt text at out
@@ -82,10 +38,6 @@ wrote-over text a b {at} {before} ab bl fits v w =
       ends = w .ends ∙ omega (arith, length-drop a text);
       written = w .written ∙ ap (putAt (drop a text) (at + a)) (v .written) ∙ put-over text a b at before ab bl fits;
     }
-
--- one byte
-pub wrote-one : (b at : ℕ) (out : List ℕ) → at < length out → Wrote (b ∷ []) at out (at + 1) (set out at b)
-wrote-one b at out h = record { ends = refl; written = sym (put-sets (b ∷ []) at out (omega arith)) }
 
 -- a word, byte by byte
 pub word-starts : (text : List ℕ) (at : ℕ) (out : List ℕ) → at + length text ≤ length out → Left text at out (drop 0 text) (at + 0) out

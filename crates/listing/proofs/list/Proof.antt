@@ -6,7 +6,7 @@ use lib.ListN.{length}
 use Rattle.circuit.specs.File.{gatesOf}
 use Rattle.circuit.proofs.Files.{Answered, read-answers, read-refuses}
 use Rattle.listing.specs.Listing.{headLines, wrapLine, gateLines, listingOfFile}
-use Rattle.listing.proofs.Writing.{Left, room, less-left, all-written}
+use Rattle.circuit.proofs.Parts.{Left, room, less-left, all-written}
 use Rattle.listing.proofs.Pieces.{listing-left}
 use Rattle.listing.proofs.Answers.{file-fails, room-fails, answered}
 use borrow.Author.Needs.{needs}

@@ -8,7 +8,7 @@ use Rattle.circuit.specs.File.{gatesOf}
 use Rattle.listing.specs.Text.{decimalFrom}
 use Rattle.listing.specs.Listing.{gateLine, gateLines}
 use Rattle.listing.proofs.Denominators.{rows-right}
-use Rattle.listing.proofs.Writing.{Left, all-left, room, less-left, none-left}
+use Rattle.circuit.proofs.Parts.{Left, all-left, room, less-left, none-left}
 use Rattle.listing.proofs.Pieces.{next-line}
 use Rattle.listing.proofs.GateLoops.{none-after}
 use Rattle.listing.proofs.put_gates.Statement.{statement}

@@ -5,7 +5,8 @@ use mathlib.Core.List.{List}
 use lib.ListN.{length}
 use Rattle.listing.specs.Denominators.{denominatorText}
 use Rattle.listing.proofs.Denominators.{row-inside, first-bytes, last-bytes}
-use Rattle.listing.proofs.Writing.{wrote-same, wrote-over}
+use Rattle.circuit.proofs.Parts.{wrote-same}
+use Rattle.listing.proofs.Writing.{wrote-over}
 use borrow.Author.Needs.{needs}
 use Rattle.listing.proofs.lines.put_denominator.Statement.{statement}
 use Rattle.listing.proofs.lines.put_denominator.Tie as tie

@@ -9,7 +9,7 @@ use Rattle.listing.specs.Text.{numbered}
 use Rattle.listing.specs.Fractions.{Fraction, over}
 use Rattle.listing.specs.Denominators.{denominatorText}
 use Rattle.listing.specs.Listing.{gateLine}
-use Rattle.listing.proofs.Writing.{Left, all-left, room, less-left, all-written, wrote-same}
+use Rattle.circuit.proofs.Parts.{Left, all-left, room, less-left, all-written, wrote-same}
 use Rattle.listing.proofs.Pieces.{cnotBytes, lastBytes, cnot-line, phase-line}
 use borrow.Author.Needs.{needs}
 use Rattle.listing.proofs.lines.put_gate.Statement.{statement}

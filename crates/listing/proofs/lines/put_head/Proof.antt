@@ -1,6 +1,6 @@
 use mathlib.Core.List.{_++_}
 use Rattle.listing.specs.Text.{numbered}
-use Rattle.listing.proofs.Writing.{Left, room, less-left, all-written}
+use Rattle.circuit.proofs.Parts.{Left, room, less-left, all-written}
 use Rattle.listing.specs.Listing.{versionLine, includeLine, closing, headLines}
 use Rattle.listing.proofs.Pieces.{head-left}
 use borrow.Author.Needs.{needs}

@@ -2,7 +2,7 @@ use mathlib.Core.Path.{refl}
 use mathlib.Core.List.{_++_}
 use Rattle.listing.specs.Text.{decimal}
 use Rattle.listing.specs.Listing.{closing}
-use Rattle.listing.proofs.Writing.{Left, all-left, room, less-left, all-written}
+use Rattle.circuit.proofs.Parts.{Left, all-left, room, less-left, all-written}
 use borrow.Author.Needs.{needs}
 use Rattle.listing.proofs.lines.put_last.Statement.{statement}
 use Rattle.listing.proofs.lines.put_last.Tie as tie

@@ -5,7 +5,7 @@ use mathlib.Core.List.{List, _++_}
 use Rattle.circuit.specs.Bytes.{Wrote}
 use Rattle.listing.specs.Text.{numbered}
 use Rattle.listing.specs.Listing.{closing, wrapLine}
-use Rattle.listing.proofs.Writing.{Left, all-written, wrote-nothing}
+use Rattle.circuit.proofs.Parts.{Left, all-written, wrote-nothing}
 use Rattle.listing.proofs.Pieces.{wrap-left, not-wrapped}
 use borrow.Author.Needs.{needs}
 use Rattle.listing.proofs.lines.put_wrap.Statement.{statement}

@@ -5,7 +5,7 @@ use lib.ListN.{drop}
 use borrow.Author.Needs.{needs}
 use Rattle.listing.specs.Text.{decimal}
 use Rattle.listing.proofs.Decimals.{LastFive, five-written, four-written, three-written, two-written, one-written}
-use Rattle.listing.proofs.Writing.{wrote-same, room-same}
+use Rattle.circuit.proofs.Parts.{wrote-same, room-same}
 use Rattle.listing.proofs.text.put_decimal.Statement.{statement}
 use Rattle.listing.proofs.text.put_decimal.Tie as tie
 

@@ -1,6 +1,6 @@
 use mathlib.Core.Path.{refl}
 use Rattle.listing.specs.Text.{decimal}
-use Rattle.listing.proofs.Writing.{all-left, room, less-left, all-written}
+use Rattle.circuit.proofs.Parts.{all-left, room, less-left, all-written}
 use borrow.Author.Needs.{needs}
 use Rattle.listing.proofs.text.put_numbered.Statement.{statement}
 use Rattle.listing.proofs.text.put_numbered.Tie as tie

@@ -1,7 +1,8 @@
 use Prim.Native.Nat.{_+_, _-_, _≤_}
 use native.Mathlib.Omega.{arith}
 use lib.ListN.{length, drop}
-use Rattle.listing.proofs.Writing.{Left, word-starts, byte-room, byte-written, word-written}
+use Rattle.circuit.proofs.Parts.{Left}
+use Rattle.listing.proofs.Writing.{word-starts, byte-room, byte-written, word-written}
 use Rattle.listing.proofs.text.put_text.Statement.{statement}
 use Rattle.listing.proofs.text.put_text.Tie as tie
 
