@@ -76,4 +76,6 @@ module _ (l : Left) (at : ℕ) (out : List ℕ) where
   four-left g e = length-bytes (leaves l) ∙ rw e
 
   pub stays : (g : Gate) → l ≡ Stays g → (after : List ℕ) → after ≡ putAt (gateBytes g) at out → Wrote (bytesOf (leaves l)) at out (at + 4) after
-  stays g e after p = record { ends = ap (at +_) (sym (four-left g e)); written = p ∙ ap (λ (b : List ℕ). putAt b at out) (rw e (sym (bytes-one g))) }
+  stays g e after p =
+      let b : gateBytes g ≡ bytesOf (leaves l) = rw e (sym (bytes-one g)) in
+      record { ends = ap (at +_) (sym (four-left g e)); written = p ∙ ap (λ (b : List ℕ). putAt b at out) b }

@@ -38,7 +38,7 @@ fn fold_good(file: &[u8], gates: usize, cnots: usize, before: usize, out: &mut [
     ensures { λ r. ⌜ Folds (now (file .entry)) (now (out .entry)) r (now (out .exit)) ⌝ }
 {
     let mut totals = totals::totals_of(file);
-    let tally = totals::tally(&totals);
+    let tally = totals::tally_of(&totals);
     let kept = cnots + (tally.kept as usize);
     let length = 8 + 4 * kept;
     if out.len() < length {

@@ -31,7 +31,7 @@ fn stays(total: u16) -> u16
     if total == 0 { 0 } else { 1 }
 }
 
-pub(crate) fn tally(totals: &[u16]) -> Tally
+pub(crate) fn tally_of(totals: &[u16]) -> Tally
     requires { ⌜ length (now totals) ≤ 1024 ⌝ }
     ensures { λ r. ⌜ (r .kept ≡ keptIn (now (totals .entry))) × (r .score ≡ scoreIn (now (totals .entry))) ⌝ }
 {

@@ -8,4 +8,4 @@ pub mod Meetings
 pub mod Walks
 mod Stepping
 mod Loops
-mod Summing
+pub mod Summing

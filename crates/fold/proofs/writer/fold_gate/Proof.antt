@@ -1,0 +1,70 @@
+use Rattle.fold.specs.Working.{leaves}
+use Rattle.fold.proofs.Stepping.{cnot-stays, total-taken}
+use borrow.Author.Needs.{needs}
+use Rattle.fold.proofs.writer.fold_gate.Statement.{statement}
+use Rattle.fold.proofs.writer.fold_gate.Tie as tie
+
+abbrev mixing : tie.After-mix → tie.Start
+mixing c = c .before .before .before .before .before .before .before
+
+abbrev meeting : tie.After-gate2 → tie.Start
+meeting c = c .before .before .before .before
+
+enum-known-gate : tie.Need-enum-known-gate
+enum-known-gate c = search needs
+
+mix-requires : tie.Need-mix-requires
+mix-requires c κs = search needs
+
+enum-known-gate-2 : tie.Need-enum-known-gate-2
+enum-known-gate-2 c = search needs
+
+mask-at-requires : tie.Need-mask-at-requires
+mask-at-requires c κs = search needs
+
+take-requires : tie.Need-take-requires
+take-requires c κs = search needs
+
+phase-requires : tie.Need-phase-requires
+phase-requires c κs = search needs
+
+same-length : tie.Need-same-length
+same-length c = search needs
+
+returns : tie.Need-returns
+returns c =
+    let done = c .before .before in
+    let a = mixing done .args in
+    let v = done .before .before .before .gate .given in
+    cnot-stays (a .gate) (a .masks .now) (a .totals .now) (v .0 .0) (v .0 .1 .0) (done .mix .last .0) (v .1) (done .mix .ensures)
+
+same-length-2 : tie.Need-same-length-2
+same-length-2 c = search needs
+
+same-length-3 : tie.Need-same-length-3
+same-length-3 c = search needs
+
+returns-2 : tie.Need-returns-2
+returns-2 c =
+    let took = c .before .before .before in
+    let met = took .before .before in
+    let told = met .before .before .before in
+    let a = meeting told .args in
+    let v = told .gate2 .given in
+    total-taken (a .gate) (a .masks .now) (a .totals .now) (v .0 .0) (v .0 .1 .0) (met .mask-at .result) (took .take .result) (took .take .last .0) (leaves (c .phase .result)) (v .1) (met .mask-at .ensures) (took .take .ensures .0) (took .take .ensures .1) (c .phase .ensures)
+
+pub fold-gate-spec : {M : Type 1} → statement M
+fold-gate-spec =
+    tie.close
+    (tie.spec
+    enum-known-gate
+    mix-requires
+    enum-known-gate-2
+    mask-at-requires
+    take-requires
+    phase-requires
+    same-length
+    returns
+    same-length-2
+    same-length-3
+    returns-2)
