@@ -34,15 +34,12 @@ pub fn spectrum(n: u8, table: &[u8], out: &mut [i32]) -> Transformed
 
 // Entry x becomes +1, or -1 where f(x) is 1.
 fn write_signs(table: &[u8], out: &mut [i32])
-    requires { ⌜ length (now out) ≤ 256 ⌝ }
     ensures { λ _. ⌜ now (out .exit) ≡ list (length (now (out .entry))) (λ x. flip (valueAt (now (table .entry)) x) (pos 1)) ⌝ }
 {
-    let mut values = [0u8; 256];
-    table::values(table, &mut values);
     let entries = out.len();
     let mut x: usize = 0;
     while x < entries {
-        out[x] = sign(values[x]);
+        out[x] = sign(table::value(table, x));
         x += 1;
     }
 }
@@ -59,8 +56,8 @@ fn transform(v: &mut [i32])
     requires { ⌜ Tame (now v) ⌝ }
     ensures { λ _. ⌜ ((n : ℕ) → length (now (v .entry)) ≡ 2 ^ n → now (v .exit) ≡ transformed n (now (v .entry))) ⌝ }
 {
-    if v.len() == 16 {
-        sixteen(v);
+    if v.len() == 4 {
+        four(v);
         return;
     }
     let half = v.len() / 2;
@@ -71,27 +68,7 @@ fn transform(v: &mut [i32])
     }
 }
 
-// H_4, and H_3 and H_2 below, the same way without the recursion: the compiler makes straight code of them.
-fn sixteen(v: &mut [i32])
-    requires { ⌜ length (now v) ≡ 16 ⌝ }
-    requires { ⌜ Tame (now v) ⌝ }
-    ensures { λ _. ⌜ ((n : ℕ) → length (now (v .entry)) ≡ 2 ^ n → now (v .exit) ≡ transformed n (now (v .entry))) ⌝ }
-{
-    eight(&mut v[..8]);
-    eight(&mut v[8..]);
-    mix(v, 8)
-}
-
-fn eight(v: &mut [i32])
-    requires { ⌜ length (now v) ≡ 8 ⌝ }
-    requires { ⌜ Tame (now v) ⌝ }
-    ensures { λ _. ⌜ ((n : ℕ) → length (now (v .entry)) ≡ 2 ^ n → now (v .exit) ≡ transformed n (now (v .entry))) ⌝ }
-{
-    four(&mut v[..4]);
-    four(&mut v[4..]);
-    mix(v, 4)
-}
-
+// H_2, straight: the base of the recursion.
 fn four(v: &mut [i32])
     requires { ⌜ length (now v) ≡ 4 ⌝ }
     requires { ⌜ Tame (now v) ⌝ }

@@ -10,7 +10,7 @@ use borrow.Fn.PlainCycle.{Measures, is, falls, and}
 use Rattle.spectrum.proofs.transform.Reads as transform
 use Rattle.spectrum.proofs.transform.Kinds as transform-kinds
 use Rattle.spectrum.proofs.+transform.Lts-transform as transform-lts
-use Rattle.spectrum.proofs.sixteen.Reads as sixteen-reads
+use Rattle.spectrum.proofs.four.Reads as four-reads
 use Rattle.spectrum.proofs.mix.Reads as mix-reads
 use Rattle.spectrum.proofs.+transform.{statement}
 use Rattle.spectrum.proofs.+transform.Tie.{close}
@@ -27,16 +27,16 @@ transform-below t =
 
 abbrev called : ℕ → transform-lts.Claims
 called t =
-    (sixteen-reads.Asked, sixteen-reads.Learnt, transform-below t, transform.Post, mix-reads.Asked, mix-reads.Learnt)
+    (four-reads.Asked, four-reads.Learnt, transform-below t, transform.Post, mix-reads.Asked, mix-reads.Learnt)
 
-transform-sixteen-requires : (t : ℕ) → transform-lts.Need-sixteen-requires (called t) (transform-at t) transform.Post
-transform-sixteen-requires t c κs = (c .before .if1 .taken, c .before .before .pre .1)
+transform-four-requires : (t : ℕ) → transform-lts.Need-four-requires (called t) (transform-at t) transform.Post
+transform-four-requires t c κs = (c .before .if1 .taken, c .before .before .pre .1)
 
 transform-same-length : (t : ℕ) → transform-lts.Need-same-length (called t) (transform-at t) transform.Post
-transform-same-length t c = c .before .sixteen .kept .0
+transform-same-length t c = c .before .four .kept .0
 
 transform-returns : (t : ℕ) → transform-lts.Need-returns (called t) (transform-at t) transform.Post
-transform-returns t c = c .before .sixteen .ensures
+transform-returns t c = c .before .four .ensures
 
 transform-slice-relend-prefix-transform :
     (t : ℕ) → transform-lts.Need-slice-relend-prefix-transform (called t) (transform-at t) transform.Post
@@ -96,7 +96,7 @@ pub +transform-spec : {M : Type 1} → statement M
 +transform-spec = close μ-transform λ t. transform-lts.spec (called t)
     (transform-at t)
     transform.Post
-    (transform-sixteen-requires t)
+    (transform-four-requires t)
     (transform-same-length t)
     (transform-returns t)
     (transform-slice-relend-prefix-transform t)

@@ -54,11 +54,7 @@ slice-aggregate-write-signs : tie.Need-slice-aggregate-write-signs
 slice-aggregate-write-signs c = sym (length-take-le (c .before .before .power .result) (c .before .before .before .before .before .before .before .args .out .now) (omega arith))
 
 write-signs-requires : tie.Need-write-signs-requires
-write-signs-requires c κs =
-    let p = c .before .before in
-    let a = p .before .before .before .before .before .args in
-    let b : 2 ^ a .n ≤ 2 ^ 8 = pow-mono {i = a .n} {j = 8} (small (p .before)) in
-    omega (arith, entries p, length-take-le (p .power .result) (a .out .now) (omega arith))
+write-signs-requires c κs = search needs
 
 slice-relend-prefix-transform : tie.Need-slice-relend-prefix-transform
 slice-relend-prefix-transform c = search needs
