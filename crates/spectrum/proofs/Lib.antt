@@ -1,10 +1,11 @@
 pub mod Words
 pub mod Halves
-pub mod Mixing
+pub mod Adding
 pub mod Bounds
 pub mod Fours
 pub mod Recursion
 pub mod Spectra
+pub mod Callers
 pub mod Answers
 pub mod Inversion
 pub mod Angles

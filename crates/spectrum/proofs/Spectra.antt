@@ -17,7 +17,7 @@ use Rattle.numbers.proofs.Lists.{length-list, getD-list, list-ext}
 use Rattle.numbers.proofs.Integers.{flip-add, natAbs-flip}
 use Rattle.table.specs.Table.{valueAt}
 use Rattle.spectrum.specs.Spectrum.{coefficient, spectrumOf}
-use Rattle.spectrum.specs.Transform.{hadamard, entry, transformed, Tame}
+use Rattle.spectrum.specs.Working.{hadamard, entry, transformed, Tame}
 use Rattle.spectrum.proofs.Halves.{hadamard-ext}
 
 -- +1, or -1 where f(x) is 1
