@@ -1,47 +1,55 @@
-use Prim.Native.Nat.{ℕ, _+_}
-use mathlib.Core.Path.{sym, ap, _∙_}
 use native.Mathlib.Omega.{arith}
 use lib.ListN.{getD}
 use lib.Pow.{pow-pos}
-use Rattle.build.proofs.Pieces.{first-block, block-long}
 use borrow.Author.Needs.{needs}
+use Rattle.circuit.specs.Gates.{bytesOf}
+use Rattle.circuit.specs.declared.Gate.the-variants.{Phase}
+use Rattle.circuit.proofs.Parts.{wrote-same, room-same}
+use Rattle.build.proofs.Pieces.{wrote-gate, first-block}
 use Rattle.build.proofs.block.block.Statement.{statement}
 use Rattle.build.proofs.block.block.Tie as tie
+
+abbrev start : tie.Then1 → tie.Start
+start c = c .before .before .before
+
+-- the one gate of wire 0 is written
+abbrev wire0 : tie.After-slice-known2 → tie.Then1
+wire0 c = c .before .before .before .before .before
 
 mul-t8 : tie.Need-mul-t8
 mul-t8 c = search needs
 
 shared-slice-read-t10 : tie.Need-shared-slice-read-t10
-shared-slice-read-t10 c = omega (arith, pow-pos (c .before .before .before .before .args .i))
+shared-slice-read-t10 c = omega (arith, pow-pos (start (c .before) .args .i))
 
 put-gate-requires : tie.Need-put-gate-requires
 put-gate-requires c κs = search needs
 
 add-result : tie.Need-add-result
-add-result c = search needs
+unfolding bytesOf
+add-result c =
+    let t = wire0 c in
+    let s = start t in
+    omega (arith, room-same (s .args .at) (s .args .out .now) (first-block (s .args .i) (s .args .angles .now) (s .args .base) (t .if1 .taken)) (s .pre .1 .1))
 
 same-length : tie.Need-same-length
 same-length c = search needs
 
 returns : tie.Need-returns
 returns c =
-    let a = c .before .before .before .before .before .before .before .before .args in
-    first-block (a .i) (a .angles .now) (a .base) (a .at) (a .out .now) (c .before .before .put-gate .last .1 .0) (omega arith) (c .before .before .put-gate .ensures)
+    let t = wire0 c in
+    let a = start t .args in
+    let put = c .before .before .put-gate in
+    wrote-same (first-block (a .i) (a .angles .now) (a .base) (t .if1 .taken)) (wrote-gate (Phase 0 (getD (a .angles .now) (a .base) 0)) (a .at) (a .out .now) (put .last .1 .0) (put .ensures))
 
 write-words-requires : tie.Need-write-words-requires
-write-words-requires c κs =
-    let s = c .before .before .before .before in
-    let l = block-long (s .args .i) (λ v. getD (s .args .angles .now) (s .args .base + v) 0) (omega arith) in
-    (omega arith, (omega arith, (omega arith, omega (arith, l, s .pre .1 .1))))
+write-words-requires c κs = let before = c .before .before in (omega arith, before .before .before .pre)
 
 same-length-2 : tie.Need-same-length-2
 same-length-2 c = search needs
 
 returns-2 : tie.Need-returns-2
-returns-2 c =
-    let a = c .before .before .before .before .before .before .before .args in
-    let w = c .before .before .write-words in
-    (w .ensures .0 ∙ ap (λ (m : ℕ). a .at + m) (sym (block-long (a .i) (λ v. getD (a .angles .now) (a .base + v) 0) (omega arith))), w .ensures .1)
+returns-2 c = search needs
 
 pub block-spec : {M : Type 1} → statement M
 block-spec =

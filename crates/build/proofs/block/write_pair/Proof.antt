@@ -1,89 +1,40 @@
-use native.Mathlib.Omega.{arith}
-use lib.ListN.{length-set}
-use Rattle.build.proofs.Pieces.{pair-stored}
 use borrow.Author.Needs.{needs}
+use Rattle.circuit.specs.Gates.{bytesOf}
+use Rattle.circuit.specs.declared.Gate.the-variants.{Cnot, Phase}
+use Rattle.build.proofs.Pieces.{wrote-pair}
 use Rattle.build.proofs.block.write_pair.Statement.{statement}
 use Rattle.build.proofs.block.write_pair.Tie as tie
 
-slice-write-out : tie.Need-slice-write-out
-slice-write-out c = search needs
+abbrev first : tie.After-put-gate2 → tie.After-put-gate
+first c = c .before .before .before .before
 
-add-out : tie.Need-add-out
-add-out c = search needs
+abbrev start : tie.After-put-gate2 → tie.Start
+start c = first c .before .before .before
 
-slice-write-out-2 : tie.Need-slice-write-out-2
-slice-write-out-2 c = simp length-set (omega arith)
+put-gate-requires : tie.Need-put-gate-requires
+put-gate-requires c κs = search needs
 
-cast-out : tie.Need-cast-out
-cast-out c = search needs
+add-put-gate : tie.Need-add-put-gate
+unfolding bytesOf
+add-put-gate c = search needs
 
-add-out-2 : tie.Need-add-out-2
-add-out-2 c = search needs
+put-gate-requires-2 : tie.Need-put-gate-requires-2
+put-gate-requires-2 c κs = search needs
 
-slice-write-out-3 : tie.Need-slice-write-out-3
-slice-write-out-3 c = simp length-set (omega arith)
-
-cast-out-2 : tie.Need-cast-out-2
-cast-out-2 c = search needs
-
-add-out-3 : tie.Need-add-out-3
-add-out-3 c = search needs
-
-slice-write-out-4 : tie.Need-slice-write-out-4
-slice-write-out-4 c = simp length-set (omega arith)
-
-add-out-4 : tie.Need-add-out-4
-add-out-4 c = search needs
-
-slice-write-out-5 : tie.Need-slice-write-out-5
-slice-write-out-5 c = simp length-set (omega arith)
-
-add-out-5 : tie.Need-add-out-5
-add-out-5 c = search needs
-
-slice-write-out-6 : tie.Need-slice-write-out-6
-slice-write-out-6 c = simp length-set (omega arith)
-
-add-out-6 : tie.Need-add-out-6
-add-out-6 c = search needs
-
-slice-write-out-7 : tie.Need-slice-write-out-7
-slice-write-out-7 c = simp length-set (omega arith)
-
-add-out-7 : tie.Need-add-out-7
-add-out-7 c = search needs
-
-slice-write-out-8 : tie.Need-slice-write-out-8
-slice-write-out-8 c = simp length-set (omega arith)
+add-result : tie.Need-add-result
+unfolding bytesOf
+add-result c = search needs
 
 same-length : tie.Need-same-length
 same-length c = search needs
 
 returns : tie.Need-returns
 returns c =
-    let a = c .args in
-    pair-stored (a .i) (a .angle) (a .control) (a .at) (a .out .now) (c .pre)
+    let second = c .before .before in
+    let s = start second in
+    wrote-pair (Phase (s .args .i) (s .args .angle)) (Cnot (s .args .control) (s .args .i)) (s .args .at) (s .args .out .now) (first second .put-gate .last .1 .0) (second .put-gate2 .last .1 .0) (s .pre) (first second .put-gate .ensures) (second .put-gate2 .ensures)
 
 pub write-pair-spec : {M : Type 1} → statement M
 write-pair-spec =
     tie.close
-    (tie.spec
-    slice-write-out
-    add-out
-    slice-write-out-2
-    cast-out
-    add-out-2
-    slice-write-out-3
-    cast-out-2
-    add-out-3
-    slice-write-out-4
-    add-out-4
-    slice-write-out-5
-    add-out-5
-    slice-write-out-6
-    add-out-6
-    slice-write-out-7
-    add-out-7
-    slice-write-out-8
-    same-length
-    returns)
+    (tie.spec put-gate-requires add-put-gate put-gate-requires-2 add-result same-length returns)

@@ -1,43 +1,62 @@
-use Prim.Native.Nat.{ℕ, _+_, _-_, _*_, _^_, _<_}
-use mathlib.Core.Path.{_≡_, ap, _∙_}
-use mathlib.Core.List.{List}
+use Prim.Native.Nat.{ℕ, _+_, _-_, _^_, _<_, _≤_}
+use mathlib.Core.Path.{_≡_, refl, _∙_}
+use mathlib.Core.List.{List, [], _∷_, _++_}
 use native.Mathlib.Omega.{arith}
 use lib.ListN.{getD}
 use borrow.Author.Needs.{needs}
 use Rattle.numbers.proofs.Powers.{power-fits}
-use Rattle.build.proofs.Pieces.{Writing, writing-starts, writing-word, writing-next, writing-ends}
+use Rattle.circuit.specs.declared.Gate.{Gate}
+use Rattle.circuit.specs.declared.Gate.the-variants.{Cnot, Phase}
+use Rattle.circuit.specs.Gates.{bytesOf}
+use Rattle.circuit.proofs.Parts.{Left, all-left, room, less-left, none-left}
+use Rattle.build.specs.Gray.{word}
+use Rattle.build.specs.Construction.{block}
+use Rattle.build.proofs.Gray.{word-below}
+use Rattle.build.proofs.Blocks.{pairAt}
+use Rattle.build.proofs.Pieces.{left, none-yet, next-left, none-after, pair-is, next-word}
 use Rattle.build.proofs.block.write_words.Statement.{statement}
 use Rattle.build.proofs.block.write_words.Tie as tie
 
 abbrev angleAt : List ℕ → ℕ → ℕ → ℕ
 angleAt angles base v = getD angles (base + v) 0
 
+-- the word is at hand, and the gates of those before it are written
 abbrev Inv-loop : tie.InvT-loop
-Inv-loop i angles base out₀ at words word₀ k₀ out word k = Writing i (angleAt angles base) at out₀ out word k
+Inv-loop i angles base out₀ at words next₀ word₀ k₀ out next v k =
+    (k ≤ words) × (v ≡ word i k) × Left (bytesOf (block i (angleAt angles base))) at out₀ (left (2 ^ i) (pairAt i (angleAt angles base)) k) next out
 
 abbrev μ-loop : tie.MeasureT-loop
-μ-loop i angles base out₀ at words word₀ k₀ out word k = words - k
+μ-loop i angles base out₀ at words next₀ word₀ k₀ out next v k = words - k
 
 power-requires : tie.Need-power-requires Inv-loop μ-loop
 power-requires c κs = search needs
 
-words-are : (c : tie.After-power Inv-loop μ-loop) → c .power .result ≡ 2 ^ c .before .before .before .args .i
+-- ---- before the loop
+
+abbrev start : tie.After-power Inv-loop μ-loop → tie.Start Inv-loop μ-loop
+start c = c .before .before .before
+
+words-are : (c : tie.After-power Inv-loop μ-loop) → c .power .result ≡ 2 ^ start c .args .i
 words-are c = c .power .ensures ∙ power-fits (omega arith)
 
 loop-holds : tie.Need-loop-holds Inv-loop μ-loop
+unfolding word
 loop-holds c =
-    let a = c .before .before .before .args in
-    writing-starts (a .i) (angleAt (a .angles .now) (a .base)) (a .at) (a .out .now) (omega arith)
+    let s = start c in
+    let a = s .args in
+    (omega arith, refl, all-left (a .at) (a .out .now) (none-yet (2 ^ a .i) (pairAt (a .i) (angleAt (a .angles .now) (a .base)))) (s .pre .1 .1 .1))
 
-below : (c : tie.In-loop Inv-loop μ-loop) → c .before .loop .k < 2 ^ c .before .before .before .before .before .args .i
+-- ---- a turn
+
+abbrev entry : tie.In-loop Inv-loop μ-loop → tie.Start Inv-loop μ-loop
+entry c = start (c .before .before)
+
+below : (c : tie.In-loop Inv-loop μ-loop) → c .before .loop .k < 2 ^ entry c .args .i
 below c = omega (arith, words-are (c .before .before))
 
 -- the word at hand is one of those that there are angles for
-word-small : (c : tie.In-loop Inv-loop μ-loop) → c .before .loop .word < 2 ^ c .before .before .before .before .before .args .i
-word-small c =
-    let a = c .before .before .before .before .before .args in
-    let l = c .before .loop in
-    writing-word (a .i) (angleAt (a .angles .now) (a .base)) (a .at) (a .out .now) (l .out) (l .word) (l .k) (l .inv) (below c)
+word-small : (c : tie.In-loop Inv-loop μ-loop) → c .before .loop .word < 2 ^ entry c .args .i
+word-small c = rw (c .before .loop .inv .1) (word-below (entry c .args .i) (c .before .loop .k) (below c))
 
 turned-requires : tie.Need-turned-requires Inv-loop μ-loop
 turned-requires c κs = omega (arith, below c)
@@ -51,47 +70,58 @@ mul-write-pair c = omega (arith, word-small (c .before))
 shared-slice-read-write-pair : tie.Need-shared-slice-read-write-pair Inv-loop μ-loop
 shared-slice-read-write-pair c = omega (arith, word-small (c .before .before))
 
-mul-write-pair-2 : tie.Need-mul-write-pair-2 Inv-loop μ-loop
-mul-write-pair-2 c = omega (arith, below (c .before .before .before))
+-- the pair of this turn, and what is left behind it
+abbrev pair : tie.After-turned Inv-loop μ-loop → List Gate
+pair c = let a = entry (c .before) .args in Phase (a .i) (angleAt (a .angles .now) (a .base) (c .before .before .loop .word)) ∷ Cnot (c .turned .result) (a .i) ∷ []
 
-add-write-pair-2 : tie.Need-add-write-pair-2 Inv-loop μ-loop
-add-write-pair-2 c = omega (arith, below (c .before .before .before))
+abbrev rest : tie.After-turned Inv-loop μ-loop → List ℕ
+rest c = let a = entry (c .before) .args in left (2 ^ a .i) (pairAt (a .i) (angleAt (a .angles .now) (a .base))) (c .before .before .loop .k + 1)
+
+now-left : (c : tie.After-turned Inv-loop μ-loop) → let a = entry (c .before) .args in let l = c .before .before .loop in
+    Left (bytesOf (block (a .i) (angleAt (a .angles .now) (a .base)))) (a .at) (a .out .now) (bytesOf (pair c) ++ rest c) (l .next) (l .out)
+now-left c =
+    let s = entry (c .before) in
+    let a = s .args in
+    let l = c .before .before .loop in
+    let f = angleAt (a .angles .now) (a .base) in
+    next-left (2 ^ a .i) (pairAt (a .i) f) (l .k) (below (c .before)) (pair c) (pair-is (a .i) f (l .k) (l .word) (c .turned .result) (s .pre .0) (l .inv .1) (c .turned .ensures)) (l .inv .2)
 
 write-pair-requires : tie.Need-write-pair-requires Inv-loop μ-loop
-write-pair-requires c κs = omega (arith, below (c .before .before .before), c .before .before .before .before .loop .inv .long)
+write-pair-requires c κs = let t = c .before .before in room (bytesOf (pair t)) (rest t) (now-left t)
 
 power-requires-2 : tie.Need-power-requires-2 Inv-loop μ-loop
 power-requires-2 c κs = search needs
 
+-- ---- after it
+
+abbrev turn : tie.After-write-pair Inv-loop μ-loop → tie.After-turned Inv-loop μ-loop
+turn c = c .before .before .before
+
 add-k : tie.Need-add-k Inv-loop μ-loop
-add-k c = omega (arith, below (c .before .before .before .before .before .before .before))
+add-k c = let w = c .before .before .before in omega (arith, below (turn w .before))
 
 loop-less : tie.Need-loop-less Inv-loop μ-loop
-loop-less c = omega (arith, c .before .before .before .before .before .before .before .loop-test .taken)
+loop-less c = let w = c .before .before .before in omega (arith, turn w .before .loop-test .taken)
 
 loop-again : tie.Need-loop-again Inv-loop μ-loop
 loop-again c =
-    let n = c .before .before .before .before .before .before .before in
-    let a = n .before .before .before .before .before .args in
-    let l = n .before .loop in
-    let d = c .before .before .before .before .before .before .turned in
-    let w = c .before .before .before .write-pair in
-    writing-next (a .i) (angleAt (a .angles .now) (a .base)) (a .at) (a .out .now) (l .out) (l .word) (l .k) (l .inv) (n .before .before .before .before .before .pre .0) (below n) (omega arith) (w .last .1 .1 .1 .0) (d .result) (c .power2 .result) (d .ensures) (w .ensures) (omega arith) (c .power2 .ensures)
-
-mul-result : tie.Need-mul-result Inv-loop μ-loop
-mul-result c = omega (arith, words-are (c .before .before))
-
-add-result : tie.Need-add-result Inv-loop μ-loop
-add-result c = omega (arith, words-are (c .before .before))
+    let w = c .before .before .before in
+    let t = turn w in
+    let s = entry (t .before) in
+    let l = t .before .before .loop in (
+      omega (arith, t .before .loop-test .taken),
+      next-word (s .args .i) (l .k) (l .word) (t .turned .result) (c .power2 .result) (s .pre .0) (s .pre .1 .0) (below (t .before)) (l .inv .1) (t .turned .ensures) (c .power2 .ensures),
+      less-left (bytesOf (pair t)) (rest t) (now-left t) (w .write-pair .ensures),
+    )
 
 same-length : tie.Need-same-length Inv-loop μ-loop
-same-length c = c .before .loop .inv .long
+same-length c = c .before .loop .inv .2 .long
 
 returns : tie.Need-returns Inv-loop μ-loop
 returns c =
-    let a = c .before .before .before .before .before .args in
     let l = c .before .loop in
-    (ap (λ (m : ℕ). a .at + 8 * m) (words-are (c .before .before)), writing-ends (a .i) (angleAt (a .angles .now) (a .base)) (a .at) (a .out .now) (l .out) (l .word) (l .k) (l .inv) (omega (arith, words-are (c .before .before))))
+    let a = start (c .before .before) .args in
+    none-left (none-after (2 ^ a .i) (pairAt (a .i) (angleAt (a .angles .now) (a .base))) (l .k) (omega (arith, words-are (c .before .before)))) (l .inv .2)
 
 pub write-words-spec : {M : Type 1} → statement M
 write-words-spec =
@@ -105,14 +135,10 @@ write-words-spec =
     add-write-pair
     mul-write-pair
     shared-slice-read-write-pair
-    mul-write-pair-2
-    add-write-pair-2
     write-pair-requires
     power-requires-2
     add-k
     loop-less
     loop-again
-    mul-result
-    add-result
     same-length
     returns)
