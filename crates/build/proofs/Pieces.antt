@@ -12,25 +12,16 @@ use Rattle.circuit.specs.declared.Gate.{Gate}
 use Rattle.circuit.specs.declared.Gate.the-variants.{Cnot, Phase}
 use Rattle.circuit.specs.Bytes.{putAt, Wrote}
 use Rattle.circuit.specs.Gates.{gateBytes, bytesOf}
-use Rattle.circuit.proofs.Decoding.{bytes-append, length-bytes}
-use Rattle.circuit.proofs.Parts.{Left, all-left, less-left, all-written}
+use Rattle.circuit.proofs.Decoding.{bytes-one, bytes-append, length-bytes}
+use Rattle.circuit.proofs.Parts.{Left}
 use Rattle.build.specs.Gray.{turned, word}
 use Rattle.build.specs.Construction.{inTurn, block}
 use Rattle.build.proofs.Gray.{turned-below}
 use Rattle.build.proofs.Blocks.{pairAt}
 
 pub wrote-gate : (g : Gate) (at : ℕ) (before after : List ℕ) → after ≡ putAt (gateBytes g) at before → Wrote (bytesOf (g ∷ [])) at before (at + 4) after
-unfolding bytesOf
-wrote-gate (Cnot c t) at before after e = record { ends = refl; written = e }
-wrote-gate (Phase i a) at before after e = record { ends = refl; written = e }
-
-pub wrote-pair : (g h : Gate) (at : ℕ) (before between after : List ℕ) → at + length (bytesOf (g ∷ h ∷ [])) ≤ length before → between ≡ putAt (gateBytes g) at before → after ≡ putAt (gateBytes h) (at + 4) between
-    → Wrote (bytesOf (g ∷ h ∷ [])) at before (at + 8) after
-wrote-pair g h at before between after fits e f =
-    let l = length-bytes (g ∷ h ∷ []) in
-    let first = all-left at before (bytes-append (g ∷ []) (h ∷ [])) fits in
-    let w = all-written (less-left (bytesOf (g ∷ [])) (bytesOf (h ∷ [])) first (wrote-gate g at before between e)) (wrote-gate h (at + 4) between after f) in
-    record { ends = omega (arith, l); written = w .written }
+wrote-gate g at before after e =
+    record { ends = ap (at +_) (sym (length-bytes (g ∷ []))); written = e ∙ ap (λ (b : List ℕ). putAt b at before) (sym (bytes-one g)) }
 
 -- ---- lists in turn
 
@@ -73,10 +64,9 @@ module _ (n : ℕ) (F : ℕ → List Gate) where
 -- ---- a wire's block
 
 -- wire 0's is one gate
-pub first-block : (i : ℕ) (angles : List ℕ) (base : ℕ) → i ≡ 0 → bytesOf (Phase 0 (getD angles base 0) ∷ []) ≡ bytesOf (block i (λ v. getD angles (base + v) 0))
+pub first-block : (angleAt : ℕ → ℕ) → Phase 0 (angleAt 0) ∷ [] ≡ block 0 angleAt
 unfolding word
-first-block i angles base e =
-    ap (λ (n : ℕ). bytesOf (Phase 0 (getD angles n 0) ∷ [])) (sym (add-zero base)) ∙ ap (λ (n : ℕ). bytesOf (block n (λ v. getD angles (base + v) 0))) (sym e)
+first-block angleAt = refl
 
 pub pair-is : (i : ℕ) (angleAt : ℕ → ℕ) (k v d : ℕ) → 0 < i → v ≡ word i k → d ≡ turned i k → Phase i (angleAt v) ∷ Cnot d i ∷ [] ≡ pairAt i angleAt k
 pair-is zero angleAt k v d h ev ed = absurd (omega arith)

@@ -14,26 +14,33 @@ pub(crate) fn first_quarter(n: u8, out: &mut [u8], at: usize) -> usize
     requires { ⌜ at + length (bytesOf (firstQuarter n)) ≤ length (now out) ⌝ }
     ensures { λ r. ⌜ Wrote (bytesOf (firstQuarter n)) at (now (out .entry)) r (now (out .exit)) ⌝ }
 {
-    circuit::put_gate(
+    put(
         Gate::Phase {
             wire: n,
             angle: 16384,
         },
         out,
         at,
-    );
-    at + 4
+    )
 }
 
-// The blocks of wires 0 to n - 1, each with the angles from 2^i on.
+// The blocks of wires 0 to n - 1, each with the angles from 2^i on. Wire 0 has one word, and no CNOT.
 pub(crate) fn variables(n: u8, angles: &[u16], out: &mut [u8], at: usize) -> usize
+    requires { ⌜ 0 < n ⌝ }
     requires { ⌜ n ≤ 8 ⌝ }
     requires { ⌜ 2 ^ n ≤ length (now angles) ⌝ }
     requires { ⌜ at + length (bytesOf (gatesOfVariables n (λ k. getD (now angles) k 0))) ≤ length (now out) ⌝ }
     ensures { λ r. ⌜ Wrote (bytesOf (gatesOfVariables n (λ k. getD (now (angles .entry)) k 0))) at (now (out .entry)) r (now (out .exit)) ⌝ }
 {
-    let mut next = at;
-    let mut i: u8 = 0;
+    let mut next = put(
+        Gate::Phase {
+            wire: 0,
+            angle: angles[1],
+        },
+        out,
+        at,
+    );
+    let mut i: u8 = 1;
     while i < n {
         next = block(i, angles, numbers::power(i), out, next);
         i += 1;
@@ -43,27 +50,6 @@ pub(crate) fn variables(n: u8, angles: &[u16], out: &mut [u8], at: usize) -> usi
 
 // Wire i's block: for each Gray word a phase by the angle at base and the word, then a CNOT from the bit that turns.
 pub(crate) fn block(i: u8, angles: &[u16], base: usize, out: &mut [u8], at: usize) -> usize
-    requires { ⌜ i ≤ 8 ⌝ }
-    requires { ⌜ base + 2 ^ i ≤ length (now angles) ⌝ }
-    requires { ⌜ at + length (bytesOf (gatesOfBlock i (λ v. getD (now angles) (base + v) 0))) ≤ length (now out) ⌝ }
-    ensures { λ r. ⌜ Wrote (bytesOf (gatesOfBlock i (λ v. getD (now (angles .entry)) (base + v) 0))) at (now (out .entry)) r (now (out .exit)) ⌝ }
-{
-    if i == 0 {
-        circuit::put_gate(
-            Gate::Phase {
-                wire: 0,
-                angle: angles[base],
-            },
-            out,
-            at,
-        );
-        return at + 4;
-    }
-    write_words(i, angles, base, out, at)
-}
-
-// A wire's block where there are bits to turn.
-fn write_words(i: u8, angles: &[u16], base: usize, out: &mut [u8], at: usize) -> usize
     requires { ⌜ 0 < i ⌝ }
     requires { ⌜ i ≤ 8 ⌝ }
     requires { ⌜ base + 2 ^ i ≤ length (now angles) ⌝ }
@@ -76,7 +62,7 @@ fn write_words(i: u8, angles: &[u16], base: usize, out: &mut [u8], at: usize) ->
     let mut k: usize = 0;
     while k < words {
         let bit = turned(i, k);
-        next = write_pair(i, angles[base + word], bit, out, next);
+        next = put_pair(i, angles[base + word], bit, out, next);
         word ^= numbers::power(bit);
         k += 1;
     }
@@ -84,13 +70,20 @@ fn write_words(i: u8, angles: &[u16], base: usize, out: &mut [u8], at: usize) ->
 }
 
 // A phase on wire i, then a CNOT to it.
-fn write_pair(i: u8, angle: u16, control: u8, out: &mut [u8], at: usize) -> usize
+fn put_pair(i: u8, angle: u16, control: u8, out: &mut [u8], at: usize) -> usize
     requires { ⌜ at + length (bytesOf (Phase i angle ∷ Cnot control i ∷ [])) ≤ length (now out) ⌝ }
     ensures { λ r. ⌜ Wrote (bytesOf (Phase i angle ∷ Cnot control i ∷ [])) at (now (out .entry)) r (now (out .exit)) ⌝ }
 {
-    circuit::put_gate(Gate::Phase { wire: i, angle }, out, at);
-    circuit::put_gate(Gate::Cnot { control, target: i }, out, at + 4);
-    at + 8
+    let next = put(Gate::Phase { wire: i, angle }, out, at);
+    put(Gate::Cnot { control, target: i }, out, next)
+}
+
+fn put(gate: Gate, out: &mut [u8], at: usize) -> usize
+    requires { ⌜ at + length (bytesOf (gate ∷ [])) ≤ length (now out) ⌝ }
+    ensures { λ r. ⌜ Wrote (bytesOf (gate ∷ [])) at (now (out .entry)) r (now (out .exit)) ⌝ }
+{
+    circuit::put_gate(gate, out, at);
+    at + 4
 }
 
 // d_k: the trailing zeros of k + 1, except that the last is i - 1.

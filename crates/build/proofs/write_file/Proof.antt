@@ -90,7 +90,7 @@ variables-requires : tie.Need-variables-requires
 variables-requires c κs =
     let q = c .before .before .before in
     let s = before-header (header q) in
-    (s .pre .1 .0, (s .pre .1 .1 .0, room (wires s) (target s) (quarter-done q)))
+    (s .pre .0, (s .pre .1 .0, (s .pre .1 .1 .0, room (wires s) (target s) (quarter-done q))))
 
 -- ---- the target's block
 
@@ -106,7 +106,7 @@ block-requires : tie.Need-block-requires
 block-requires c κs =
     let v = c .before .before .before in
     let s = before-header (header (first v)) in
-    (s .pre .1 .0, (omega arith, wires-done v .fits))
+    (s .pre .0, (s .pre .1 .0, (omega arith, wires-done v .fits)))
 
 same-length : tie.Need-same-length
 same-length c = search needs
