@@ -18,7 +18,7 @@ use Rattle.refusal.specs.Contract.{values}
 use Rattle.refusal.proofs.Rooms.{earlier-refused, room-refused, room-enough}
 use Rattle.table.specs.Table.{tableChecks, valueAt}
 use Rattle.spectrum.specs.Spectrum.{coefficient, spectrumOf, angle, theta}
-use Rattle.spectrum.proofs.Spectra.{length-spectrum}
+use Rattle.spectrum.proofs.Callers.{length-spectrum}
 use Rattle.spectrum.proofs.Angles.{coefficient-size}
 use Rattle.circuit.specs.Bytes.{putAt}
 use Rattle.circuit.specs.File.{fileOf}

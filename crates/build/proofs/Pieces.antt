@@ -4,7 +4,6 @@ use native.Mathlib.Nat.{add-zero, zero-add}
 use native.Mathlib.Omega.{arith}
 use mathlib.Core.Path.{_≡_, refl, sym, ap, ap₂, subst, _∙_}
 use mathlib.Core.List.{List, [], _∷_, _++_, append-assoc, append-nil}
-use lib.ListN.{length, getD}
 use lib.Bits.{bitXor}
 use lib.Pow.{pow-mono}
 use Rattle.numbers.proofs.Powers.{power-fits}

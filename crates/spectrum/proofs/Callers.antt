@@ -10,11 +10,16 @@ use Rattle.refusal.specs.declared.Refusal.{Refusal}
 use Rattle.refusal.specs.Checks.{passed, refused, outcome}
 use Rattle.refusal.proofs.Contracts.{Distinct, same-refusal, meets-values, meets-refusal}
 use Rattle.refusal.proofs.Rooms.{room-suffices}
-use Rattle.table.specs.Table.{tableChecks}
+use Rattle.numbers.proofs.Lists.{length-list}
+use Rattle.table.specs.Table.{tableChecks, valueAt}
 use Rattle.table.proofs.Callers.{good-variables}
 use Rattle.spectrum.specs.declared.Transformed.{Transformed}
 use Rattle.spectrum.specs.declared.Transformed.the-variants.{Entries, Refused}
-use Rattle.spectrum.specs.Spectrum.{spectrumOf, spectrumChecks, transformedSays, Transforms}
+use Rattle.spectrum.specs.Spectrum.{coefficient, spectrumOf, spectrumChecks, transformedSays, Transforms}
+
+pub length-spectrum : (n : ℕ) (t : List ℕ) → length (spectrumOf n t) ≡ 2 ^ n
+unfolding spectrumOf
+length-spectrum n t = length-list (2 ^ n) (coefficient n (valueAt t))
 
 module _ (n : ℕ) (t : List ℕ) where
   -- 256 entries are room for every table: only the table can be refused

@@ -1,3 +1,4 @@
+pub mod Callers
 pub mod Words
 pub mod Halves
 pub mod Adding
@@ -5,7 +6,6 @@ pub mod Bounds
 pub mod Fours
 pub mod Recursion
 pub mod Spectra
-pub mod Callers
 pub mod Answers
 pub mod Inversion
 pub mod Angles

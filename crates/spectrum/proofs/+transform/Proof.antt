@@ -1,11 +1,11 @@
 use Prim.Native.Nat.{ℕ, _/_, _<_}
-use mathlib.Core.Path.{_≡_, refl, sym, _∙_}
+use mathlib.Core.Path.{_≡_, refl, sym}
 use mathlib.Core.List.{_++_}
 use native.Mathlib.Omega.{arith}
 use lib.ListN.{length, drop}
 use lib.Seq.{length-take-le}
 use Rattle.numbers.proofs.Parts.{first-falls, row-long, second-falls}
-use Rattle.spectrum.proofs.Recursion.{one-entry, first-call, second-call, joined-long, add-call, add-gives}
+use Rattle.spectrum.proofs.Recursion.{one-entry, first-call, second-call, add-call, add-gives, transform-long}
 use borrow.Fn.Kinds.{In}
 use borrow.Fn.PlainCycle.{Measures, is, falls, and}
 use Rattle.spectrum.proofs.transform.Reads as transform
@@ -97,13 +97,6 @@ module _ (t : ℕ) where
   abbrev second : tie.After-v4 (called t) (transform-at t) transform.Post → tie.After-transform2 (called t) (transform-at t) transform.Post
   second c = c .before .before .before .before
 
-  same-length-2 : tie.Need-same-length-2 (called t) (transform-at t) transform.Post
-  same-length-2 c =
-      let g = second c .transform2 in
-      let d = first (second c) in
-      let f = d .transform in
-      c .before .add-and-subtract .kept .0 ∙ joined-long (start d .args .v .now) _ refl (d .before .before .if2 .taken) (f .last .0) (f .kept .0) (g .last .0) (f .ensures) (g .ensures) (g .kept .0)
-
   returns-2 : tie.Need-returns-2 (called t) (transform-at t) transform.Post
   returns-2 c =
       let g = second c .transform2 in
@@ -111,6 +104,11 @@ module _ (t : ℕ) where
       let f = d .transform in
       let h = c .before .add-and-subtract in
       add-gives (start d .args .v .now) _ refl (d .before .before .if2 .taken) (f .last .0) (f .kept .0) (g .last .0) (f .ensures) (g .ensures) (h .last .0) (h .ensures)
+
+  same-length-2 : tie.Need-same-length-2 (called t) (transform-at t) transform.Post
+  same-length-2 c =
+      let s = start (first (second c)) in
+      transform-long (s .args .v .now) (c .before .add-and-subtract .last .0) (s .pre .1) (returns-2 c)
 
   returns-3 : tie.Need-returns-3 (called t) (transform-at t) transform.Post
   returns-3 c = one-entry (c .before .before .args .v .now) (c .if2 .left)

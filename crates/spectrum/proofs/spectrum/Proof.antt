@@ -7,7 +7,7 @@ use Rattle.refusal.specs.Checks.{passed, outcome}
 use Rattle.numbers.proofs.Powers.{power-fits}
 use Rattle.table.specs.Table.{tableChecks}
 use Rattle.table.proofs.Callers.{check-answers, check-refuses, good-variables}
-use Rattle.spectrum.proofs.Spectra.{part-long, signs-tame, leaves-spectrum}
+use Rattle.spectrum.proofs.Spectra.{Signs, part-long, signs-tame, leaves-spectrum}
 use Rattle.spectrum.proofs.Answers.{table-fails, room-fails, answered}
 use Rattle.spectrum.proofs.spectrum.Statement.{statement}
 use Rattle.spectrum.proofs.spectrum.Tie as tie
@@ -29,8 +29,13 @@ entries : (c : tie.After-power) → c .power .result ≡ 2 ^ start (c .before) .
 entries c = c .power .ensures ∙ power-fits (omega (arith, small (c .before)))
 
 -- the signs are written, in a slice that has room
-abbrev roomy : tie.After-write-signs → tie.Else1
-roomy c = c .before .before
+abbrev powered : tie.After-write-signs → tie.After-power
+powered c = c .before .before .before
+
+written : (c : tie.After-write-signs) → let p = powered c in let a = start (p .before) .args in Signs (a .n) (a .table .now) (a .out .now) (c .write-signs .last .1 .0) (p .power .result)
+written c =
+    let p = powered c in
+    record { small = small (p .before); count = entries p; fits = c .before .before .if1 .left; each = c .write-signs .ensures }
 
 check-requires : tie.Need-check-requires
 check-requires c κs = search needs
@@ -76,18 +81,10 @@ slice-relend-prefix-transform : tie.Need-slice-relend-prefix-transform
 slice-relend-prefix-transform c = search needs
 
 slice-aggregate-transform : tie.Need-slice-aggregate-transform
-slice-aggregate-transform c =
-    let w = c .before .before in
-    let p = roomy w .before in
-    let a = start (p .before) .args in
-    part-long (a .n) (a .table .now) (a .out .now) (w .write-signs .last .1 .0) (p .power .result) (small (p .before)) (entries p) (roomy w .if1 .left) (w .write-signs .ensures)
+slice-aggregate-transform c = part-long (written (c .before .before))
 
 transform-requires : tie.Need-transform-requires
-transform-requires c κs =
-    let w = c .before .before in
-    let p = roomy w .before in
-    let a = start (p .before) .args in
-    signs-tame (a .n) (a .table .now) (a .out .now) (w .write-signs .last .1 .0) (p .power .result) (small (p .before)) (entries p) (roomy w .if1 .left) (w .write-signs .ensures)
+transform-requires c κs = signs-tame (written (c .before .before))
 
 same-length : tie.Need-same-length
 same-length c = search needs
@@ -97,12 +94,10 @@ signs c = c .before .before .before .before
 
 returns-3 : tie.Need-returns-3
 returns-3 c =
-    let w = signs c in
-    let p = roomy w .before in
+    let p = powered (signs c) in
     let a = start (p .before) .args in
     let f = c .before .transform in
-    answered (a .n) (a .table .now) (a .out .now) (good (p .before)) (omega (arith, entries p)) (p .power .result) (entries p) _
-    (leaves-spectrum (a .n) (a .table .now) (a .out .now) (w .write-signs .last .1 .0) (p .power .result) (small (p .before)) (entries p) (roomy w .if1 .left) (w .write-signs .ensures) (f .last .0) (f .ensures))
+    answered (a .n) (a .table .now) (a .out .now) (good (p .before)) (omega (arith, entries p)) (p .power .result) (entries p) _ (leaves-spectrum (written (signs c)) (f .last .0) (f .ensures))
 
 pub spectrum-spec : {M : Type 1} → statement M
 spectrum-spec =
