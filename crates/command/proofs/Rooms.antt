@@ -14,7 +14,8 @@ use Rattle.table.specs.Table.{tableChecks}
 use Rattle.table.proofs.Tables.{good-variables}
 use Rattle.circuit.specs.File.{wiresOf, gatesOf, fileChecks}
 use Rattle.circuit.specs.Bytes.{Bytes}
-use Rattle.circuit.proofs.Files.{good-file, file-sound, length-gates, length-file}
+use Rattle.circuit.proofs.Callers.{good-file}
+use Rattle.circuit.proofs.Files.{file-sound, length-gates, length-file}
 use Rattle.spectrum.specs.Spectrum.{spectrumChecks}
 use Rattle.build.specs.Construction.{buildChecks}
 use Rattle.fold.specs.Fold.{folded, foldedFile, foldChecks}

@@ -10,7 +10,8 @@ use Rattle.circuit.specs.Gates.{Sound}
 use Rattle.circuit.specs.File.{wiresOf, countOf, gatesOf, fileChecks}
 use Rattle.circuit.specs.Bytes.{Bytes}
 use Rattle.circuit.proofs.Decoding.{sound-wider}
-use Rattle.circuit.proofs.Files.{good-file, saidAt, gate-said, gates-end, file-sound, length-gates}
+use Rattle.circuit.proofs.Callers.{good-file}
+use Rattle.circuit.proofs.Files.{saidAt, gate-said, gates-end, file-sound, length-gates}
 use Rattle.listing.specs.Listing.{gateLines}
 use Rattle.listing.proofs.Pieces.{no-lines, lines-short}
 

@@ -23,7 +23,8 @@ use Rattle.circuit.specs.File.{wiresOf, gatesOf, fileChecks}
 use Rattle.running.specs.Run.{endFrom}
 use Rattle.running.specs.Masks.{ownMasks, firstMasks, sumMet, masksBy, tallied}
 use Rattle.circuit.specs.Bytes.{Bytes}
-use Rattle.circuit.proofs.Files.{good-file, file-sound}
+use Rattle.circuit.proofs.Callers.{good-file}
+use Rattle.circuit.proofs.Files.{file-sound}
 use Rattle.running.proofs.Masks.{own-below}
 use Rattle.running.proofs.Meetings.{collected}
 use Rattle.running.proofs.Tallies.{length-by, length-tallied, tallied-small, file-tallied, file-masks}

@@ -6,7 +6,7 @@ use lib.ListN.{length}
 use borrow.Author.Needs.{needs}
 use borrow.Author.Tests.{le-leb}
 use Rattle.circuit.specs.File.{gatesOf}
-use Rattle.circuit.proofs.Files.{GoodFile, good-file}
+use Rattle.circuit.proofs.Callers.{GoodFile, good-file}
 use Rattle.listing.specs.Listing.{gateLines, listingOfFile}
 use Rattle.listing.proofs.Pieces.{listing-length}
 use Rattle.listing.proofs.GateLoops.{lines-fit}

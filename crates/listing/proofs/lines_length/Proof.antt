@@ -4,7 +4,7 @@ use native.Mathlib.Omega.{arith}
 use mathlib.Core.Path.{_≡_, ap}
 use lib.ListN.{length, drop}
 use Rattle.circuit.specs.File.{gatesOf}
-use Rattle.circuit.proofs.Files.{good-file}
+use Rattle.circuit.proofs.Callers.{good-file}
 use Rattle.listing.specs.Listing.{gateLine, gateLines}
 use Rattle.listing.proofs.Pieces.{next-long}
 use Rattle.listing.proofs.GateLoops.{none-after, lines-fit}

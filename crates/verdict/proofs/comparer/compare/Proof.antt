@@ -1,4 +1,4 @@
-use Rattle.circuit.proofs.Files.{read-answers, read-refuses}
+use Rattle.circuit.proofs.Callers.{read-answers, read-refuses}
 use Rattle.verdict.proofs.Answers.{compare-first}
 use borrow.Author.Needs.{needs}
 use Rattle.verdict.proofs.comparer.compare.Statement.{statement}

@@ -2,7 +2,7 @@ use Prim.Native.Nat.{_^_}
 use mathlib.Core.Path.{_≡_, sym, ap, _∙_}
 use lib.Seq.{length-take-le}
 use Rattle.circuit.specs.File.{wiresOf}
-use Rattle.circuit.proofs.Files.{Answered, read-answers, read-refuses, good-file, file-passes}
+use Rattle.circuit.proofs.Callers.{good-file, file-passes, Answered, read-answers, read-refuses}
 use Rattle.numbers.proofs.Powers.{small-power}
 use Rattle.verdict.proofs.Answers.{compare-second, compare-unlike, compare-room, compare-found}
 use native.Mathlib.Omega.{arith}

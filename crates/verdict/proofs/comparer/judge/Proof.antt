@@ -4,7 +4,7 @@ use Rattle.table.proofs.Tables.{table-refused, table-passed}
 use mathlib.Core.Path.{_≡_, subst}
 use Rattle.refusal.specs.Checks.{outcome, passed}
 use Rattle.refusal.specs.Contract.{Says}
-use Rattle.circuit.proofs.Files.{read-answers, read-refuses}
+use Rattle.circuit.proofs.Callers.{read-answers, read-refuses}
 use Rattle.verdict.proofs.Answers.{judge-table, judge-file}
 use borrow.Author.Needs.{needs}
 use Rattle.verdict.proofs.comparer.judge.Statement.{statement}

@@ -5,7 +5,7 @@ use mathlib.Core.Path.{_≡_, sym, ap, _∙_}
 use lib.Seq.{length-take-le}
 use Rattle.table.proofs.Tables.{good-variables}
 use Rattle.circuit.specs.File.{wiresOf}
-use Rattle.circuit.proofs.Files.{good-file}
+use Rattle.circuit.proofs.Callers.{good-file}
 use Rattle.numbers.proofs.Powers.{small-power}
 use Rattle.verdict.proofs.Answers.{judge-unlike, judge-room, judge-found}
 use native.Mathlib.Omega.{arith}

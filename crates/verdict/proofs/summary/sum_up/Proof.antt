@@ -2,7 +2,7 @@ use native.Mathlib.Omega.{arith}
 use mathlib.Core.Path.{_≡_, sym}
 use lib.ListN.{length}
 use borrow.Author.Needs.{needs}
-use Rattle.circuit.proofs.Files.{good-file}
+use Rattle.circuit.proofs.Callers.{good-file}
 use Rattle.verdict.proofs.Summaries.{sums-up, masks-long, are-ends}
 use Rattle.verdict.proofs.summary.sum_up.Statement.{statement}
 use Rattle.verdict.proofs.summary.sum_up.Tie as tie
