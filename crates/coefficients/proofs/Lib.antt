@@ -1,0 +1,10 @@
+pub mod Parities
+pub mod Polynomials
+pub mod Ideals
+mod Adding
+mod Gathering
+mod Blocks
+mod Weighing
+mod Filling
+mod Ends
+mod Turning

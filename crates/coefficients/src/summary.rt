@@ -1,0 +1,51 @@
+// A circuit summed up.
+use crate::sums::gather;
+use crate::weights::weigh;
+ghost use mathlib.Core.Path.{_≡_};
+ghost use mathlib.Core.Bool.{true};
+ghost use Prim.Native.Nat.{ℕ, _^_, _≤_, _<_};
+ghost use lib.ListN.{length};
+ghost use Rattle.numbers.specs.Sums.{list};
+ghost use Rattle.circuit.specs.Bytes.{putAt};
+ghost use Rattle.coefficients.specs.Working.{gathered, weighed, column};
+
+// From the angles at each mask to the coefficient of each set.
+fn put_coefficients(totals: &mut [u16], row: &mut [u16])
+    requires { ⌜ length (now totals) ≤ 1024 ⌝ }
+    ensures { λ _. ⌜ ((n : ℕ) → length (now (totals .entry)) ≡ 2 ^ n → now (row .exit) ≡ putAt (list (2 ^ n) (weighed (gathered true n (now (totals .entry))))) 0 (now (row .entry))) ⌝ }
+{
+    gather(totals, true);
+    weigh(totals, row);
+}
+
+// Where each wire's own start ends, at the front of `ends`; where they do not fit, nothing is written.
+fn put_ends(masks: &[u16], ends: &mut [u16])
+    requires { ⌜ length (now masks) ≤ 10 ⌝ }
+    ensures { λ _. ⌜ now (ends .exit) ≡ putAt (list (length (now (masks .entry))) (column (now (masks .entry)))) 0 (now (ends .entry)) ⌝ }
+{
+    let wires = masks.len();
+    if ends.len() < wires {
+        return;
+    }
+    let mut i: usize = 0;
+    while i < wires {
+        ends[i] = end_of(masks, i);
+        i += 1;
+    }
+}
+
+// Where the start 2^i ends: bit j is bit i of wire j's mask.
+fn end_of(masks: &[u16], i: usize) -> u16
+    requires { ⌜ (length (now masks) ≤ 10) × (i < 16) ⌝ }
+    ensures { λ r. ⌜ r ≡ column (now (masks .entry)) i ⌝ }
+{
+    let mut state: u16 = 0;
+    let mut place: u16 = 1;
+    let mut j: usize = 0;
+    while j < masks.len() {
+        state += ((masks[j] >> i) % 2) * place;
+        place += place;
+        j += 1;
+    }
+    state
+}
