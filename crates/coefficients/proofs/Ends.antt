@@ -9,9 +9,9 @@ use lib.ListN.{length, take}
 use lib.Seq.{getD-take, length-take-le}
 use lib.Pow.{pow-lt, pow-mono}
 use Rattle.numbers.specs.Bits.{bit}
-use Rattle.numbers.specs.Sums.{sum}
+use Rattle.numbers.specs.Sums.{sum, list}
 use Rattle.numbers.proofs.Sums.{sumOf-ext}
-use Rattle.numbers.proofs.Lists.{length-list}
+use Rattle.numbers.proofs.Lists.{length-list, list-ext}
 use Rattle.numbers.proofs.Digits.{digits, digits-below}
 use Rattle.numbers.proofs.Parity.{dot-comm}
 use Rattle.numbers.proofs.Wires.{dot-power}
@@ -22,6 +22,7 @@ use Rattle.running.specs.Run.{endFrom}
 use Rattle.running.specs.Masks.{ownMasks, masksFrom}
 use Rattle.running.proofs.Masks.{length-masks, wire-parity}
 use Rattle.running.proofs.Runs.{end-below}
+use Rattle.coefficients.specs.Coefficients.{singleEnds}
 use Rattle.coefficients.specs.Working.{entry, column}
 
 -- what the first j wires' masks make of it
@@ -67,3 +68,8 @@ module _ (w : ℕ) (gs : List Gate) (few : w ≤ 10) (sound : AllSound w gs) whe
       (ap (λ (m : ℕ). bit m i) (getD-take w masks j 0 l)
       ∙ sym (wire-parity 10 gs (all-wider w 10 gs few sound) (2 ^ i) j (omega arith) ∙ dot-comm (entry masks j) (2 ^ i) ∙ dot-power i (entry masks j))))
       ∙ digits w (endFrom gs (2 ^ i)) ∙ mod-eq-of-lt (end-below w gs (2 ^ i) sound (pow-lt k))
+
+  pub are-ends : (held : List ℕ) (wires : ℕ) → held ≡ masks → wires ≡ w → list (length (take wires held)) (column (take wires held)) ≡ singleEnds w gs
+  are-ends held wires e p =
+      ap₂ (λ (v : List ℕ) (k : ℕ). list (length (take k v)) (column (take k v))) e p
+      ∙ ap (λ (k : ℕ). list k (column (take w masks))) front-long ∙ list-ext w (column (take w masks)) (λ i. endFrom gs (2 ^ i)) column-end

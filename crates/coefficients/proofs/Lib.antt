@@ -8,3 +8,6 @@ mod Weighing
 mod Filling
 mod Ends
 mod Turning
+mod Summaries
+mod Answers
+pub mod Callers

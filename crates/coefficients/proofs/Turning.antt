@@ -1,22 +1,22 @@
--- The ideal's coefficients from half turns at the table's ones, and a row less them.
-use Prim.Native.Nat.{ℕ, suc, _+_, _-_, _*_, _/_, _%_, _^_, _<_, _≤_}
+-- The ideal's coefficients from half turns at the table's ones.
+use Prim.Native.Nat.{ℕ, suc, _+_, _-_, _*_, _%_, _^_, _<_, _≤_}
 use native.Mathlib.Nat.{two-pow-succ}
+use native.Mathlib.Numerals.{add-one}
 use native.Mathlib.Omega.{arith}
-use mathlib.Core.Path.{_≡_, sym, ap, ap₂, _∙_}
+use mathlib.Core.Path.{_≡_, refl, sym, ap, ap₂, _∙_}
 use mathlib.Core.Bool.{false}
-use mathlib.Core.List.{List, _++_}
-use lib.ListN.{length, take, drop, length-append, length-drop, List·getD-append}
-use lib.Seq.{length-take-le, getD-take, getD-drop, take-at}
-use borrow.Rule.Slice.PartMut.{putMid}
+use mathlib.Core.List.{List, [], _∷_, _++_, append-assoc}
+use lib.ListN.{length, take, replicate, length-append, length-replicate}
+use lib.Seq.{length-take-le, getD-take, take-at}
+use borrow.Rule.Slice.PartMut.{postOf, putMid}
 use Rattle.numbers.specs.Bits.{subset}
 use Rattle.numbers.specs.Sums.{sum, list}
 use Rattle.numbers.proofs.Sums.{sumOf-ext}
 use Rattle.numbers.proofs.Lists.{length-list, getD-list, is-list, list-ext, list-split}
-use Rattle.numbers.proofs.Rows.{end-part, end-put}
 use Rattle.numbers.proofs.Subsets.{sum-scale}
 use Rattle.table.specs.Table.{valueAt}
-use Rattle.numbers.specs.Turn.{difference}
-use Rattle.coefficients.specs.Coefficients.{idealCoefficient}
+use Rattle.running.proofs.Masks.{zeros}
+use Rattle.coefficients.specs.Coefficients.{idealCoefficient, idealCoefficients}
 use Rattle.coefficients.specs.Working.{entry, gathered}
 use Rattle.coefficients.proofs.Ideals.{below-mark, with-mark}
 
@@ -40,3 +40,44 @@ turns-ideal t before v after e g n l =
     g n (ap length d ∙ length-list (2 ^ n) (λ x. 32768 * valueAt t x))
     ∙ list-ext (2 ^ n) (λ s. sum (2 ^ n) (λ m. subset m s * entry v m) % 65536) (λ s. idealCoefficient n (valueAt t) (2 ^ n + s)) (turns-at t v n d)
 
+-- put behind as many that are nothing, they are all of the ideal's
+module _ (n half : ℕ) (h : half ≡ 2 ^ n) (f : ℕ → ℕ) (row upper : List ℕ) (none : row ≡ replicate 1024 0) (fits : half + half ≤ 1024)
+    (e : upper ≡ list (2 ^ n) (λ s. idealCoefficient n f (2 ^ n + s))) where
+  abbrev whole : List ℕ
+  whole = putMid half (half + half - half) row upper
+
+  row-long : length row ≡ 1024
+  row-long = ap length none ∙ length-replicate {A = ℕ} 1024 0
+
+  lower : take half row ≡ list (2 ^ n) (idealCoefficient n f)
+  lower =
+      is-list 0 (take half row) (2 ^ n) (idealCoefficient n f) (length-take-le half row (omega (arith, row-long)) ∙ h)
+      (λ s k. getD-take half row s 0 (omega arith) ∙ ap (λ (l : List ℕ). entry l s) none ∙ zeros 1024 s ∙ sym (below-mark n f s k))
+
+  both-long : length (take half row ++ upper) ≡ half + half
+  both-long =
+      length-append (take half row) upper
+      ∙ ap₂ _+_ (length-take-le half row (omega (arith, row-long))) (ap length e ∙ length-list (2 ^ n) (λ s. idealCoefficient n f (2 ^ n + s)) ∙ sym h)
+
+  apart : whole ≡ (take half row ++ upper) ++ postOf half (half + half - half) row
+  apart = sym (append-assoc (take half row) upper (postOf half (half + half - half) row))
+
+  pub ideal-fits : half + half ≤ length whole
+  ideal-fits = omega (arith, ap length apart, length-append (take half row ++ upper) (postOf half (half + half - half) row), both-long)
+
+  pub ideal-row : take (half + half) whole ≡ idealCoefficients n f
+  ideal-row =
+      ap (take (half + half)) apart ∙ take-at (take half row ++ upper) (postOf half (half + half - half) row) (half + half) both-long ∙ ap₂ _++_ lower e
+      ∙ sym (ap (λ (m : ℕ). list (2 ^ m) (idealCoefficient n f)) (add-one n) ∙ ap (λ (m : ℕ). list m (idealCoefficient n f)) (two-pow-succ n) ∙ list-split (2 ^ n) (2 ^ n) (idealCoefficient n f))
+
+-- single wires in order
+abbrev powers : List ℕ
+powers = 1 ∷ 2 ∷ 4 ∷ 8 ∷ 16 ∷ 32 ∷ 64 ∷ 128 ∷ 256 ∷ 512 ∷ []
+
+all-powers : powers ≡ list 10 (λ i. 2 ^ i)
+all-powers = refl
+
+pub some-powers : (m : ℕ) → m ≤ 10 → take m powers ≡ list m (λ i. 2 ^ i)
+some-powers m h =
+    is-list 0 (take m powers) m (λ i. 2 ^ i) (length-take-le m powers h)
+    (λ i k. getD-take m powers i 0 k ∙ ap (λ (l : List ℕ). entry l i) all-powers ∙ getD-list 10 (λ j. 2 ^ j) i 0 (omega arith))

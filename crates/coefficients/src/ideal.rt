@@ -1,4 +1,5 @@
 // The ideal of a table summed up.
+use crate::empty;
 use crate::sums::gather;
 use table::Checked;
 ghost use mathlib.Core.Path.{_≡_};
@@ -22,7 +23,7 @@ pub fn summarise_ideal(n: u8, table: &[u8], row: &mut [u16], ends: &mut [u16]) -
     }
     let half = numbers::power(n);
     let size = half + half;
-    let mut ideal = [0u16; 512];
+    let mut ideal = empty();
     put_ideal(table, &mut ideal[half..size]);
     put(&ideal[..size], row);
     put(&POWERS[..n as usize + 1], ends);
