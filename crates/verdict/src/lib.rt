@@ -1,16 +1,8 @@
 // Document 01, "Coefficients and verdict": whether two circuits, or a circuit and a table, do the same.
 use refusal::Refusal;
 
-mod comparer;
-mod decide;
-mod gather;
-mod ideal;
-mod settle;
-mod summary;
-mod weigh;
-
-pub use comparer::compare;
-pub use comparer::judge;
+mod summaries;
+mod scan;
 
 pub enum Verdict {
     Same,

@@ -2,8 +2,8 @@ use Prim.Native.Nat.{ℕ, _*_}
 use mathlib.Core.Path.{_≡_, sym, ap, _∙_}
 use native.Mathlib.Nat.{zero-mul, one-mul}
 use native.Mathlib.Omega.{arith}
-use Rattle.verdict.proofs.settle.where_set.Statement.{statement}
-use Rattle.verdict.proofs.settle.where_set.Tie as tie
+use Rattle.verdict.proofs.scan.where_set.Statement.{statement}
+use Rattle.verdict.proofs.scan.where_set.Tie as tie
 
 returns : tie.Need-returns
 returns c = sym (ap (λ (n : ℕ). n * c .before .args .end) (c .if1 .taken) ∙ zero-mul (c .before .args .end))

@@ -1,23 +1,20 @@
-use Prim.Native.Nat.{_-_, _*_, _≤_}
-use mathlib.Core.Path.{_≡_, refl}
-use lib.Bits.{bitXor}
-use lib.ListN.{length}
-use Rattle.numbers.specs.Bits.{bit}
-use Rattle.numbers.specs.Sums.{sumOf}
-use Rattle.verdict.specs.Working.{entry}
-use Rattle.verdict.proofs.Settling.{end-next, end-whole}
+use Prim.Native.Nat.{_-_, _≤_}
+use mathlib.Core.Path.{_≡_, ap, _∙_}
 use native.Mathlib.Omega.{arith}
-use Rattle.verdict.proofs.settle.end_at.Statement.{statement}
-use Rattle.verdict.proofs.settle.end_at.Tie as tie
+use Rattle.verdict.specs.Working.{entry, endOf}
+use Rattle.verdict.proofs.Judging.{end-none, end-next}
+use Rattle.verdict.proofs.scan.end_at.Statement.{statement}
+use Rattle.verdict.proofs.scan.end_at.Tie as tie
+use Prim.Native.Nat.{ℕ}
 
 abbrev Inv-loop : tie.InvT-loop
-Inv-loop ends state end₀ i₀ end i = (i ≤ length ends) × (end ≡ sumOf 0 bitXor i (λ k. bit state k * entry ends k))
+Inv-loop ends wires state count end₀ i₀ end i = (i ≤ wires) × (end ≡ endOf i (entry ends) state)
 
 abbrev μ-loop : tie.MeasureT-loop
-μ-loop ends state end₀ i₀ end i = length ends - i
+μ-loop ends wires state count end₀ i₀ end i = wires - i
 
 loop-holds : tie.Need-loop-holds Inv-loop μ-loop
-loop-holds c = (omega arith, refl)
+loop-holds c = let a = c .before .args in (omega arith, end-none (entry (a .ends .now)) (a .state))
 
 shr-where-set : tie.Need-shr-where-set Inv-loop μ-loop
 shr-where-set c = omega arith
@@ -39,16 +36,17 @@ loop-less c = omega arith
 
 loop-again : tie.Need-loop-again Inv-loop μ-loop
 loop-again c =
-    let l = c .before .before .before .loop in
-    let a = c .before .before .before .before .before .args in
+    let at = c .before .before .before in
+    let l = at .loop in
+    let a = at .before .before .args in
     let r = c .where-set in
-    (omega arith, end-next (a .ends .now) (a .state) (l .end) (l .i) (r .result) (l .inv .1) (r .ensures))
+    (omega arith, end-next (entry (a .ends .now)) (a .state) (l .end) (l .i) (r .result) (l .inv .1) (r .ensures))
 
 returns : tie.Need-returns Inv-loop μ-loop
 returns c =
     let l = c .before .loop in
     let a = c .before .before .before .args in
-    end-whole (a .ends .now) (a .state) (l .end) (l .i) (omega arith) (l .inv .1)
+    l .inv .1 ∙ ap (λ (n : ℕ). endOf n (entry (a .ends .now)) (a .state)) (let e : l .i ≡ a .wires = omega arith in e)
 
 pub end-at-spec : {M : Type 1} → statement M
 end-at-spec =
