@@ -5,11 +5,11 @@ use native.Mathlib.Numerals.{add-one}
 use native.Mathlib.Decide.{decLt}
 use native.Mathlib.Omega.{arith}
 use mathlib.Core.Path.{_≡_, refl, sym, ap, ap₂, _∙_}
-use mathlib.Core.Bool.{cond}
+use mathlib.Core.Bool.{true, false, cond}
 use lib.Bits.{bitXor}
-use lib.Dec.{ltb}
+use lib.Dec.{ltb, eqb}
 use lib.Pow.{pow-lt}
-use borrow.Author.Tests.{lt-ltb, le-ltb}
+use borrow.Author.Tests.{lt-ltb, le-ltb, eq-eqb, eqb-true, not-false}
 use Rattle.numbers.specs.Bits.{bit}
 use Rattle.numbers.specs.Sums.{sumOf}
 use Rattle.numbers.specs.Search.{least}
@@ -20,8 +20,22 @@ use Rattle.numbers.proofs.Digits.{by-bits}
 use Rattle.verdict.specs.declared.Verdict.the-variants.{Same, Different}
 use Rattle.verdict.specs.Verdicts.{Side, verdictAt, verdict, differences}
 use Rattle.verdict.specs.Working.{Summary, unlike, lowestPlace, endOf, judgedAt, judged}
-use Rattle.verdict.proofs.Lowest.{Lowest, lowest-map, unlike-found, verdict-found}
+use Rattle.verdict.proofs.Lowest.{Lowest, lowest-one, lowest-map, lowest-found, verdict-found}
 use Rattle.verdict.proofs.Scanning.{Summed, scan-finds, scan-phase}
+
+-- of two rows of numbers, the first place where they differ
+module _ (f g : ℕ → ℕ) (n : ℕ) where
+  abbrev Alike : ℕ → Type 0
+  Alike k = f k ≡ g k
+
+  pub unlike-found : Lowest Alike n (least (unlike f g) n 0)
+  unlike-found = lowest-found (unlike f g) Alike (λ k e. eqb-true (f k) (g k) (not-false (eqb (f k) (g k)) e)) apart n
+    where
+      apart : (k : ℕ) → unlike f g k ≡ true → Alike k → ⊥
+      apart k t e = let z : false ≡ true = rw (eq-eqb (f k) (g k) e) at t in let y : _≡_ {A = ℕ} 0 1 = cc in omega arith
+
+  pub unlike-least : (p : ℕ) → Lowest Alike n p → p ≡ least (unlike f g) n 0
+  unlike-least p l = lowest-one Alike n p (least (unlike f g) n 0) l unlike-found
 
 -- wrapping subtraction
 pub subtracted : (a b r : ℕ) → r < 65536 → b < 65536 → (r + b) % 65536 ≡ a → r ≡ difference a b

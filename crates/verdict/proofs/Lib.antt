@@ -3,3 +3,4 @@ pub mod Scanning
 pub mod Sides
 mod Judging
 pub mod Answers
+pub mod Callers

@@ -4,14 +4,12 @@ use native.Mathlib.Decide.{ℕ-discrete, decLt}
 use native.Mathlib.Omega.{arith}
 use mathlib.Core.Path.{_≡_, sym, ap, subst, _∙_}
 use mathlib.Core.Bool.{Bool, true, false}
-use lib.Dec.{eqb}
-use borrow.Author.Tests.{lt-ltb, le-ltb, eq-eqb, ne-eqb, eqb-true, not-false}
+use borrow.Author.Tests.{lt-ltb, le-ltb, eq-eqb, ne-eqb}
 use Rattle.numbers.specs.Search.{least}
 use Rattle.numbers.proofs.Search.{least-found}
 use Rattle.verdict.specs.declared.Verdict.the-variants.{Same, Different}
 use Rattle.numbers.specs.Turn.{difference}
 use Rattle.verdict.specs.Verdicts.{Side, part, verdictAt, verdict}
-use Rattle.verdict.specs.Working.{unlike}
 
 -- p is the lowest below n at which A fails, or n where it holds at all of them
 pub record Lowest (A : ℕ → Type 0) (n p : ℕ) : Type 0 where
@@ -34,24 +32,10 @@ lowest-map A B n p f g l =
     record { within = l .within; before = λ k h. f k (omega (arith, l .within)) (l .before k h); there = λ h b. l .there h (g p h b) }
 
 -- the definition finds it
-lowest-found : (test : ℕ → Bool) (A : ℕ → Type 0) → ((k : ℕ) → test k ≡ false → A k) → ((k : ℕ) → test k ≡ true → A k → ⊥) → (n : ℕ) → Lowest A n (least test n 0)
+pub lowest-found : (test : ℕ → Bool) (A : ℕ → Type 0) → ((k : ℕ) → test k ≡ false → A k) → ((k : ℕ) → test k ≡ true → A k → ⊥) → (n : ℕ) → Lowest A n (least test n 0)
 lowest-found test A holds fails n =
     let r = least-found test n 0 in
     record { within = omega (arith, r .most); before = λ k h. holds k (r .before k (omega arith) h); there = λ h. fails (least test n 0) (r .there (omega arith)) }
-
--- of two rows of numbers, the first place where they differ
-module _ (f g : ℕ → ℕ) (n : ℕ) where
-  abbrev Alike : ℕ → Type 0
-  Alike k = f k ≡ g k
-
-  pub unlike-found : Lowest Alike n (least (unlike f g) n 0)
-  unlike-found = lowest-found (unlike f g) Alike (λ k e. eqb-true (f k) (g k) (not-false (eqb (f k) (g k)) e)) apart n
-    where
-      apart : (k : ℕ) → unlike f g k ≡ true → Alike k → ⊥
-      apart k t e = let z : false ≡ true = rw (eq-eqb (f k) (g k) e) at t in let y : _≡_ {A = ℕ} 0 1 = cc in omega arith
-
-  pub unlike-least : (p : ℕ) → Lowest Alike n p → p ≡ least (unlike f g) n 0
-  unlike-least p l = lowest-one Alike n p (least (unlike f g) n 0) l unlike-found
 
 -- a start ends alike under both sides, with the same phase
 pub record Agree (a b : Side) (x : ℕ) : Type 0 where
