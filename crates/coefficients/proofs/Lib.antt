@@ -7,7 +7,7 @@ mod Blocks
 mod Weighing
 mod Filling
 mod Ends
-mod Turning
 mod Summaries
+mod Turning
 mod Answers
 pub mod Callers

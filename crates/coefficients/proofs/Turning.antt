@@ -3,9 +3,9 @@ use Prim.Native.Nat.{ℕ, suc, _+_, _-_, _*_, _%_, _^_, _<_, _≤_}
 use native.Mathlib.Nat.{two-pow-succ}
 use native.Mathlib.Numerals.{add-one}
 use native.Mathlib.Omega.{arith}
-use mathlib.Core.Path.{_≡_, refl, sym, ap, ap₂, _∙_}
+use mathlib.Core.Path.{_≡_, sym, ap, ap₂, _∙_}
 use mathlib.Core.Bool.{false}
-use mathlib.Core.List.{List, [], _∷_, _++_, append-assoc}
+use mathlib.Core.List.{List, _++_, append-assoc}
 use lib.ListN.{length, take, replicate, length-append, length-replicate}
 use lib.Seq.{length-take-le, getD-take, take-at}
 use borrow.Rule.Slice.PartMut.{postOf, putMid}
@@ -15,6 +15,7 @@ use Rattle.numbers.proofs.Sums.{sumOf-ext}
 use Rattle.numbers.proofs.Lists.{length-list, getD-list, is-list, list-ext, list-split}
 use Rattle.numbers.proofs.Subsets.{sum-scale}
 use Rattle.table.specs.Table.{valueAt}
+use Rattle.running.specs.Masks.{ownMasks}
 use Rattle.running.proofs.Masks.{zeros}
 use Rattle.coefficients.specs.Coefficients.{idealCoefficient, idealCoefficients}
 use Rattle.coefficients.specs.Working.{entry, gathered}
@@ -70,14 +71,8 @@ module _ (n half : ℕ) (h : half ≡ 2 ^ n) (f : ℕ → ℕ) (row upper : List
       ap (take (half + half)) apart ∙ take-at (take half row ++ upper) (postOf half (half + half - half) row) (half + half) both-long ∙ ap₂ _++_ lower e
       ∙ sym (ap (λ (m : ℕ). list (2 ^ m) (idealCoefficient n f)) (add-one n) ∙ ap (λ (m : ℕ). list m (idealCoefficient n f)) (two-pow-succ n) ∙ list-split (2 ^ n) (2 ^ n) (idealCoefficient n f))
 
--- single wires in order
-abbrev powers : List ℕ
-powers = 1 ∷ 2 ∷ 4 ∷ 8 ∷ 16 ∷ 32 ∷ 64 ∷ 128 ∷ 256 ∷ 512 ∷ []
-
-all-powers : powers ≡ list 10 (λ i. 2 ^ i)
-all-powers = refl
-
-pub some-powers : (m : ℕ) → m ≤ 10 → take m powers ≡ list m (λ i. 2 ^ i)
-some-powers m h =
-    is-list 0 (take m powers) m (λ i. 2 ^ i) (length-take-le m powers h)
-    (λ i k. getD-take m powers i 0 k ∙ ap (λ (l : List ℕ). entry l i) all-powers ∙ getD-list 10 (λ j. 2 ^ j) i 0 (omega arith))
+-- "ends as it starts": the single-wire states, which are also the masks before the first gate
+pub some-powers : (held : List ℕ) (m : ℕ) → held ≡ ownMasks 10 → m ≤ 10 → take m held ≡ list m (λ i. 2 ^ i)
+some-powers held m e h =
+    is-list 0 (take m held) m (λ i. 2 ^ i) (length-take-le m held (omega (arith, ap length e)))
+    (λ i k. getD-take m held i 0 k ∙ ap (λ (l : List ℕ). entry l i) e ∙ getD-list 10 (λ j. 2 ^ j) i 0 (omega arith))

@@ -11,8 +11,6 @@ ghost use Rattle.circuit.specs.Bytes.{putAt};
 ghost use Rattle.coefficients.specs.Coefficients.{idealCoefficient};
 ghost use Rattle.coefficients.specs.Summaries.{SummarisesIdeal};
 
-const POWERS: [u16; 10] = [1, 2, 4, 8, 16, 32, 64, 128, 256, 512];
-
 // The ideal's coefficients and the ends of its single-wire starts, each at the front of a slice where they fit, or the
 // refusal of the table. Below wire n's own set there are no coefficients, and the ideal ends as it starts.
 pub fn summarise_ideal(n: u8, table: &[u8], row: &mut [u16], ends: &mut [u16]) -> Checked
@@ -26,7 +24,8 @@ pub fn summarise_ideal(n: u8, table: &[u8], row: &mut [u16], ends: &mut [u16]) -
     let mut ideal = empty();
     put_ideal(table, &mut ideal[half..size]);
     put(&ideal[..size], row);
-    put(&POWERS[..n as usize + 1], ends);
+    let own = running::own_masks();
+    put(&own[..n as usize + 1], ends);
     Checked::Good
 }
 

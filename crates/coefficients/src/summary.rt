@@ -1,15 +1,36 @@
 // A circuit summed up.
+use crate::empty;
 use crate::sums::gather;
 use crate::weights::weigh;
+use circuit::Reading;
 ghost use mathlib.Core.Path.{_≡_};
 ghost use mathlib.Core.Bool.{true};
 ghost use Prim.Native.Nat.{ℕ, _^_, _≤_, _<_};
 ghost use lib.ListN.{length};
 ghost use Rattle.numbers.specs.Sums.{list};
 ghost use Rattle.circuit.specs.Bytes.{putAt};
+ghost use Rattle.coefficients.specs.Summaries.{Summarises};
 ghost use Rattle.coefficients.specs.Working.{gathered, weighed, column};
 
-// From the angles at each mask to the coefficient of each set.
+// A file's wires and gate count as the reader says them, its circuit's coefficients and the ends of its single-wire
+// starts, each at the front of a slice where they fit, or the refusal of the file.
+pub fn summarise(file: &[u8], side: u8, row: &mut [u16], ends: &mut [u16]) -> Reading
+    ensures { λ r. ⌜ Summarises side (now (file .entry)) (now (row .entry)) (now (ends .entry)) r (now (row .exit)) (now (ends .exit)) ⌝ }
+{
+    let mut totals = empty();
+    let mut masks = running::own_masks();
+    match running::sum_groups(file, side, &mut totals, &mut masks) {
+        Reading::Refused(refusal) => Reading::Refused(refusal),
+        Reading::Circuit { wires, gates } => {
+            let size = numbers::power(wires);
+            put_coefficients(&mut totals[..size], row);
+            put_ends(&masks[..wires as usize], ends);
+            Reading::Circuit { wires, gates }
+        }
+    }
+}
+
+// From the total at each mask to the coefficient of each set.
 fn put_coefficients(totals: &mut [u16], row: &mut [u16])
     requires { ⌜ length (now totals) ≤ 1024 ⌝ }
     ensures { λ _. ⌜ ((n : ℕ) → length (now (totals .entry)) ≡ 2 ^ n → now (row .exit) ≡ putAt (list (2 ^ n) (weighed (gathered true n (now (totals .entry))))) 0 (now (row .entry))) ⌝ }

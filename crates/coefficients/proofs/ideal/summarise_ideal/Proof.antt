@@ -30,7 +30,10 @@ abbrev halved : tie.After-put-ideal → tie.After-power
 halved c = c .before .before .before
 
 abbrev written : tie.After-slice-known4 → tie.After-slice-known3
-written c = c .before .before .before .before .before
+written c = c .before .before .before .before .before .before
+
+abbrev owned : tie.After-slice-known4 → tie.After-own-masks
+owned c = c .before .before .before .before .before
 
 abbrev upper : tie.After-slice-known3 → tie.After-put-ideal
 upper c = c .before .before .before .before .before .before
@@ -126,16 +129,20 @@ slice-aggregate-put c =
 put-requires : tie.Need-put-requires
 put-requires c κs = search needs
 
-add-t13 : tie.Need-add-t13
-add-t13 c = search needs
+own-masks-requires : tie.Need-own-masks-requires
+own-masks-requires c κs = search needs
 
-array-share-prefix-put : tie.Need-array-share-prefix-put
-array-share-prefix-put c = omega (arith, few (halved (upper c)))
+add-own : tie.Need-add-own
+add-own c = search needs
+
+array-share-prefix-own : tie.Need-array-share-prefix-own
+array-share-prefix-own c = omega (arith, few (halved (upper (c .before))), ap length (c .own-masks .ensures))
 
 slice-aggregate-put-2 : tie.Need-slice-aggregate-put-2
 slice-aggregate-put-2 c =
-    let p = halved (upper (c .before)) in
-    sym (length-take-le (begun p .args .n + 1) _ (omega (arith, few p)))
+    let own = c .before in
+    let p = halved (upper (own .before)) in
+    sym (length-take-le (begun p .args .n + 1) (own .own-masks .result) (omega (arith, few p, ap length (own .own-masks .ensures))))
 
 put-requires-2 : tie.Need-put-requires-2
 put-requires-2 c κs = search needs
@@ -148,14 +155,16 @@ same-length-2 c = search needs
 
 returns-2 : tie.Need-returns-2
 returns-2 c =
-    let u = upper (written c) in
+    let w = written c in
+    let own = owned c in
+    let u = upper w in
     let p = halved u in
     let a = begun p .args in
     let f = valueAt (a .table .now) in
     let row = u .before .before .empty in
     sums-passed checkedSays (outcome (tableChecks (a .n) (a .table .now))) [] (idealCoefficients (a .n) f) (idealEnds (a .n)) (a .row .now) (a .ends .now) _ _ _ refl (good p)
-    (written c .before .before .put .ensures ∙ ap (λ (v : List ℕ). putAt v 0 (a .row .now)) (ideal-row (a .n) (p .power .result) (half p) f (row .result) (u .put-ideal .last .1 .0) (row .ensures) (omega (arith, fits p)) (sums u)))
-    (c .before .before .put2 .ensures ∙ ap (λ (v : List ℕ). putAt v 0 (a .ends .now)) (some-powers (a .n + 1) (omega (arith, few p))))
+    (w .before .before .put .ensures ∙ ap (λ (v : List ℕ). putAt v 0 (a .row .now)) (ideal-row (a .n) (p .power .result) (half p) f (row .result) (u .put-ideal .last .1 .0) (row .ensures) (omega (arith, fits p)) (sums u)))
+    (c .before .before .put2 .ensures ∙ ap (λ (v : List ℕ). putAt v 0 (a .ends .now)) (some-powers (own .own-masks .result) (a .n + 1) (own .own-masks .ensures) (omega (arith, few p))))
 
 pub summarise-ideal-spec : {M : Type 1} → statement M
 summarise-ideal-spec =
@@ -176,8 +185,9 @@ summarise-ideal-spec =
     array-share-prefix-ideal
     slice-aggregate-put
     put-requires
-    add-t13
-    array-share-prefix-put
+    own-masks-requires
+    add-own
+    array-share-prefix-own
     slice-aggregate-put-2
     put-requires-2
     same-length
