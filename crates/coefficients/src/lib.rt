@@ -3,16 +3,22 @@
 ghost use mathlib.Core.Path.{_≡_};
 ghost use lib.ListN.{replicate};
 ghost use Rattle.running.specs.Masks.{mostMasks};
-
 use running::MASKS;
 
+// a circuit summed up
 mod summary;
+
+// the ideal of a table summed up
 mod ideal;
+
+// sums over sets
 mod sums;
+
+// and their weights
 mod weights;
 
-pub use summary::summarise;
 pub use ideal::summarise_ideal;
+pub use summary::summarise;
 
 // A row for the sets of ten wires, with nothing in it.
 pub(crate) fn empty() -> [u16; MASKS]

@@ -32,13 +32,7 @@ pub(crate) fn scan(
 }
 
 // The lowest place of unlike coefficients, or of unlike ends, wire i's standing at 2^i; 2^w where all are alike.
-fn lowest_place(
-    wires: u8,
-    first: &[u16],
-    firsts: &[u16],
-    second: &[u16],
-    seconds: &[u16],
-) -> usize
+fn lowest_place(wires: u8, first: &[u16], firsts: &[u16], second: &[u16], seconds: &[u16]) -> usize
     requires { ⌜ Holds wires (now first) (now firsts) × Holds wires (now second) (now seconds) ⌝ }
     ensures { λ r. ⌜ r ≡ lowestPlace wires (summary (now (first .entry)) (now (firsts .entry))) (summary (now (second .entry)) (now (seconds .entry))) ⌝ }
 {
