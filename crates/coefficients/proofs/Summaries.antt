@@ -1,5 +1,5 @@
 -- The totals at each mask, gathered and weighed, are the paper's coefficients; with the masks' ends, a circuit's summary.
-use Prim.Native.Nat.{ℕ, _+_, _*_, _%_, _^_, _<_, _≤_}
+use Prim.Native.Nat.{ℕ, _*_, _%_, _^_, _<_, _≤_}
 use native.Mathlib.Nat.{mul-comm}
 use native.Mathlib.Omega.{arith}
 use mathlib.Core.Path.{_≡_, sym, ap, _∙_}
@@ -9,7 +9,7 @@ use lib.Count.{ones}
 use lib.ListN.{length, take}
 use lib.Seq.{length-take-le}
 use Rattle.numbers.specs.Bits.{equal, subset}
-use Rattle.numbers.specs.Sums.{sum, list}
+use Rattle.numbers.specs.Sums.{list}
 use Rattle.numbers.specs.Turn.{_≈_}
 use Rattle.numbers.proofs.Lists.{length-list, getD-list, list-ext}
 use Rattle.numbers.proofs.Powers.{small-power}

@@ -1,5 +1,5 @@
 -- The ideal's coefficients from half turns at the table's ones.
-use Prim.Native.Nat.{ℕ, suc, _+_, _-_, _*_, _%_, _^_, _<_, _≤_}
+use Prim.Native.Nat.{ℕ, _+_, _-_, _*_, _%_, _^_, _<_, _≤_}
 use native.Mathlib.Nat.{two-pow-succ}
 use native.Mathlib.Numerals.{add-one}
 use native.Mathlib.Omega.{arith}
@@ -15,7 +15,7 @@ use Rattle.numbers.proofs.Sums.{sumOf-ext}
 use Rattle.numbers.proofs.Lists.{length-list, getD-list, is-list, list-ext, list-split}
 use Rattle.numbers.proofs.Subsets.{sum-scale}
 use Rattle.table.specs.Table.{valueAt}
-use Rattle.running.specs.Masks.{ownMasks}
+use Rattle.running.specs.Masks.{mostWires, mostMasks, ownMasks}
 use Rattle.running.proofs.Masks.{zeros}
 use Rattle.coefficients.specs.Coefficients.{idealCoefficient, idealCoefficients}
 use Rattle.coefficients.specs.Working.{entry, gathered}
@@ -42,18 +42,18 @@ turns-ideal t before v after e g n l =
     ∙ list-ext (2 ^ n) (λ s. sum (2 ^ n) (λ m. subset m s * entry v m) % 65536) (λ s. idealCoefficient n (valueAt t) (2 ^ n + s)) (turns-at t v n d)
 
 -- put behind as many that are nothing, they are all of the ideal's
-module _ (n half : ℕ) (h : half ≡ 2 ^ n) (f : ℕ → ℕ) (row upper : List ℕ) (none : row ≡ replicate 1024 0) (fits : half + half ≤ 1024)
+module _ (n half : ℕ) (h : half ≡ 2 ^ n) (f : ℕ → ℕ) (row upper : List ℕ) (none : row ≡ replicate mostMasks 0) (fits : half + half ≤ mostMasks)
     (e : upper ≡ list (2 ^ n) (λ s. idealCoefficient n f (2 ^ n + s))) where
   abbrev whole : List ℕ
   whole = putMid half (half + half - half) row upper
 
-  row-long : length row ≡ 1024
-  row-long = ap length none ∙ length-replicate {A = ℕ} 1024 0
+  row-long : length row ≡ mostMasks
+  row-long = ap length none ∙ length-replicate {A = ℕ} mostMasks 0
 
   lower : take half row ≡ list (2 ^ n) (idealCoefficient n f)
   lower =
       is-list 0 (take half row) (2 ^ n) (idealCoefficient n f) (length-take-le half row (omega (arith, row-long)) ∙ h)
-      (λ s k. getD-take half row s 0 (omega arith) ∙ ap (λ (l : List ℕ). entry l s) none ∙ zeros 1024 s ∙ sym (below-mark n f s k))
+      (λ s k. getD-take half row s 0 (omega arith) ∙ ap (λ (l : List ℕ). entry l s) none ∙ zeros mostMasks s ∙ sym (below-mark n f s k))
 
   both-long : length (take half row ++ upper) ≡ half + half
   both-long =
@@ -72,7 +72,7 @@ module _ (n half : ℕ) (h : half ≡ 2 ^ n) (f : ℕ → ℕ) (row upper : List
       ∙ sym (ap (λ (m : ℕ). list (2 ^ m) (idealCoefficient n f)) (add-one n) ∙ ap (λ (m : ℕ). list m (idealCoefficient n f)) (two-pow-succ n) ∙ list-split (2 ^ n) (2 ^ n) (idealCoefficient n f))
 
 -- "ends as it starts": the single-wire states, which are also the masks before the first gate
-pub some-powers : (held : List ℕ) (m : ℕ) → held ≡ ownMasks 10 → m ≤ 10 → take m held ≡ list m (λ i. 2 ^ i)
+pub some-powers : (held : List ℕ) (m : ℕ) → held ≡ ownMasks mostWires → m ≤ mostWires → take m held ≡ list m (λ i. 2 ^ i)
 some-powers held m e h =
     is-list 0 (take m held) m (λ i. 2 ^ i) (length-take-le m held (omega (arith, ap length e)))
-    (λ i k. getD-take m held i 0 k ∙ ap (λ (l : List ℕ). entry l i) e ∙ getD-list 10 (λ j. 2 ^ j) i 0 (omega arith))
+    (λ i k. getD-take m held i 0 k ∙ ap (λ (l : List ℕ). entry l i) e ∙ getD-list mostWires (λ j. 2 ^ j) i 0 (omega arith))

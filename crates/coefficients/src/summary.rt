@@ -9,6 +9,7 @@ ghost use Prim.Native.Nat.{ℕ, _^_, _≤_, _<_};
 ghost use lib.ListN.{length};
 ghost use Rattle.numbers.specs.Sums.{list};
 ghost use Rattle.circuit.specs.Bytes.{putAt};
+ghost use Rattle.running.specs.Masks.{mostWires, mostMasks};
 ghost use Rattle.coefficients.specs.Summaries.{Summarises};
 ghost use Rattle.coefficients.specs.Working.{gathered, weighed, column};
 
@@ -32,7 +33,7 @@ pub fn summarise(file: &[u8], side: u8, row: &mut [u16], ends: &mut [u16]) -> Re
 
 // From the total at each mask to the coefficient of each set.
 fn put_coefficients(totals: &mut [u16], row: &mut [u16])
-    requires { ⌜ length (now totals) ≤ 1024 ⌝ }
+    requires { ⌜ length (now totals) ≤ mostMasks ⌝ }
     ensures { λ _. ⌜ ((n : ℕ) → length (now (totals .entry)) ≡ 2 ^ n → now (row .exit) ≡ putAt (list (2 ^ n) (weighed (gathered true n (now (totals .entry))))) 0 (now (row .entry))) ⌝ }
 {
     gather(totals, true);
@@ -41,7 +42,7 @@ fn put_coefficients(totals: &mut [u16], row: &mut [u16])
 
 // Where each wire's own start ends, at the front of `ends`; where they do not fit, nothing is written.
 fn put_ends(masks: &[u16], ends: &mut [u16])
-    requires { ⌜ length (now masks) ≤ 10 ⌝ }
+    requires { ⌜ length (now masks) ≤ mostWires ⌝ }
     ensures { λ _. ⌜ now (ends .exit) ≡ putAt (list (length (now (masks .entry))) (column (now (masks .entry)))) 0 (now (ends .entry)) ⌝ }
 {
     let wires = masks.len();
@@ -57,7 +58,7 @@ fn put_ends(masks: &[u16], ends: &mut [u16])
 
 // Where the start 2^i ends: bit j is bit i of wire j's mask.
 fn end_of(masks: &[u16], i: usize) -> u16
-    requires { ⌜ (length (now masks) ≤ 10) × (i < 16) ⌝ }
+    requires { ⌜ (length (now masks) ≤ mostWires) × (i < 16) ⌝ }
     ensures { λ r. ⌜ r ≡ column (now (masks .entry)) i ⌝ }
 {
     let mut state: u16 = 0;

@@ -3,11 +3,12 @@ ghost use mathlib.Core.Path.{_≡_};
 ghost use mathlib.Core.Logic.{_⊎_};
 ghost use Prim.Native.Nat.{ℕ, _^_, _+_, _*_, _<_, _≤_};
 ghost use lib.ListN.{length};
+ghost use Rattle.running.specs.Masks.{mostMasks};
 ghost use Rattle.coefficients.specs.Working.{gathered, joined, inBlocks, Added};
 
 // Blocks of one entry at first, then each two neighbours made one, until one block is left.
 pub(crate) fn gather(v: &mut [u16], up: bool)
-    requires { ⌜ length (now v) ≤ 1024 ⌝ }
+    requires { ⌜ length (now v) ≤ mostMasks ⌝ }
     ensures { λ _. ⌜ ((n : ℕ) → length (now (v .entry)) ≡ 2 ^ n → now (v .exit) ≡ gathered up n (now (v .entry))) ⌝ }
 {
     let mut half: usize = 1;
@@ -19,7 +20,7 @@ pub(crate) fn gather(v: &mut [u16], up: bool)
 
 // Each two neighbouring blocks of `half` entries become one.
 fn join_blocks(v: &mut [u16], half: usize, up: bool)
-    requires { ⌜ (0 < half) × (half ≤ length (now v)) × (length (now v) ≤ 1024) ⌝ }
+    requires { ⌜ (0 < half) × (half ≤ length (now v)) × (length (now v) ≤ mostMasks) ⌝ }
     ensures { λ _. ⌜ ((c : ℕ) → length (now (v .entry)) ≡ c * (half + half) → now (v .exit) ≡ inBlocks (joined up half) (half + half) c (now (v .entry))) ⌝ }
 {
     let size = half + half;

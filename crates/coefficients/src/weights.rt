@@ -4,6 +4,7 @@ ghost use Prim.Native.Nat.{_*_, _%_, _<_, _≤_};
 ghost use lib.ListN.{length};
 ghost use Rattle.numbers.specs.Sums.{list};
 ghost use Rattle.circuit.specs.Bytes.{putAt};
+ghost use Rattle.running.specs.Masks.{mostMasks};
 ghost use Rattle.coefficients.specs.Working.{weightAt, weighed};
 
 // By the number of wires k: nothing for none, else (-2)^(k-1), wrapped.
@@ -11,7 +12,7 @@ const WEIGHTS: [u16; 11] = [0, 1, 65534, 4, 65528, 16, 65504, 64, 65408, 256, 65
 
 // Each sum by the weight of its set, at the front of `out`; where they do not fit, nothing is written.
 pub(crate) fn weigh(v: &[u16], out: &mut [u16])
-    requires { ⌜ length (now v) ≤ 1024 ⌝ }
+    requires { ⌜ length (now v) ≤ mostMasks ⌝ }
     ensures { λ _. ⌜ now (out .exit) ≡ putAt (list (length (now (v .entry))) (weighed (now (v .entry)))) 0 (now (out .entry)) ⌝ }
 {
     let size = v.len();
@@ -27,7 +28,7 @@ pub(crate) fn weigh(v: &[u16], out: &mut [u16])
 }
 
 fn weight(s: usize) -> u16
-    requires { ⌜ s < 1024 ⌝ }
+    requires { ⌜ s < mostMasks ⌝ }
     ensures { λ r. ⌜ r ≡ weightAt s ⌝ }
 {
     WEIGHTS[usize::count_ones(s) as usize]

@@ -5,9 +5,9 @@ use native.Mathlib.Numerals.{add-one}
 use native.Mathlib.Decide.{decLt}
 use native.Mathlib.Omega.{arith}
 use mathlib.Core.Path.{_≡_, refl, sym, ap, ap₂, _∙_}
-use mathlib.Core.Bool.{true, false, cond}
+use mathlib.Core.Bool.{true, false}
 use lib.Bits.{bitXor}
-use lib.Dec.{ltb, eqb}
+use lib.Dec.{eqb}
 use lib.Pow.{pow-lt}
 use borrow.Author.Tests.{lt-ltb, le-ltb, eq-eqb, eqb-true, not-false}
 use Rattle.numbers.specs.Bits.{bit}
@@ -17,6 +17,7 @@ use Rattle.numbers.specs.Turn.{difference}
 use Rattle.numbers.proofs.Sums.{sumOf-ext}
 use Rattle.numbers.proofs.Lists.{list-ext}
 use Rattle.numbers.proofs.Digits.{by-bits}
+use Rattle.running.specs.Masks.{mostWires}
 use Rattle.verdict.specs.declared.Verdict.the-variants.{Same, Different}
 use Rattle.verdict.specs.Verdicts.{Side, verdictAt, verdict, differences}
 use Rattle.verdict.specs.Working.{Summary, unlike, lowestPlace, endOf, judgedAt, judged}
@@ -52,7 +53,7 @@ end-none ends state = refl
 
 module _ (w : ℕ) (x y : Summary) where
   -- the lower of a place and a single wire's state
-  module _ (place wire single : ℕ) (few : w ≤ 10) (e : place ≡ least (unlike (x .coefficients) (y .coefficients)) (2 ^ w) 0) (d : wire ≡ least (unlike (x .ends) (y .ends)) w 0) (q : single ≡ 1 * 2 ^ wire % 2 ^ 64) where
+  module _ (place wire single : ℕ) (few : w ≤ mostWires) (e : place ≡ least (unlike (x .coefficients) (y .coefficients)) (2 ^ w) 0) (d : wire ≡ least (unlike (x .ends) (y .ends)) w 0) (q : single ≡ 1 * 2 ^ wire % 2 ^ 64) where
     power : single ≡ 2 ^ wire
     power = q ∙ ap (_% 2 ^ 64) (one-mul (2 ^ wire)) ∙ mod-eq-of-lt (pow-lt {i = wire} {j = 64} (omega (arith, unlike-found (x .ends) (y .ends) w .within)))
 

@@ -2,7 +2,7 @@
 use Prim.Native.Nat.{ℕ, _+_, _^_, _≤_}
 use native.Mathlib.Numerals.{add-one}
 use native.Mathlib.Omega.{arith}
-use mathlib.Core.Path.{_≡_, sym, ap, subst, subst₂, _∙_}
+use mathlib.Core.Path.{_≡_, sym, ap, subst, subst₂}
 use mathlib.Core.List.{List}
 use lib.ListN.{length}
 use lib.Pow.{pow-mono}

@@ -11,6 +11,7 @@ use Rattle.numbers.specs.Search.{least}
 use Rattle.numbers.specs.Turn.{difference}
 use Rattle.refusal.specs.Checks.{outcome}
 use Rattle.refusal.specs.Contract.{Meets}
+use Rattle.running.specs.Masks.{mostWires}
 use Rattle.verdict.specs.declared.Verdict.{Verdict}
 use Rattle.verdict.specs.declared.Verdict.the-variants.{Same, Different}
 use Rattle.verdict.specs.declared.Compared.{Compared}
@@ -30,7 +31,7 @@ summary row ends = record { coefficients = entry row; ends = entry ends }
 
 -- two slices hold a summary on w wires
 pub record Holds (w : ℕ) (row ends : List ℕ) : Type 0 where
-  pub few : w ≤ 10
+  pub few : w ≤ mostWires
   pub sets : 2 ^ w ≤ length row
   pub wires : w ≤ length ends
 

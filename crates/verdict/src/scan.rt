@@ -4,6 +4,7 @@ ghost use mathlib.Core.Path.{_≡_};
 ghost use Prim.Native.Nat.{_*_, _≤_, _<_};
 ghost use lib.ListN.{length};
 ghost use Rattle.numbers.specs.Search.{least};
+ghost use Rattle.running.specs.Masks.{mostWires};
 ghost use Rattle.verdict.specs.Working.{entry, unlike, endOf, summary, Holds, lowestPlace, judged};
 
 // The verdict at the lowest place where the summaries differ: both ends there, and first minus second.
@@ -61,7 +62,7 @@ fn first_unlike(a: &[u16], b: &[u16], count: usize) -> usize
 
 // Where a state ends: the exclusive or of its bits' ends.
 fn end_at(ends: &[u16], wires: u8, state: usize) -> u16
-    requires { ⌜ (wires ≤ 10) × (wires ≤ length (now ends)) ⌝ }
+    requires { ⌜ (wires ≤ mostWires) × (wires ≤ length (now ends)) ⌝ }
     ensures { λ r. ⌜ r ≡ endOf wires (entry (now (ends .entry))) state ⌝ }
 {
     let count = wires as usize;

@@ -1,4 +1,4 @@
-use Prim.Native.Nat.{_-_, _≤_}
+use Prim.Native.Nat.{ℕ, _-_, _≤_}
 use mathlib.Core.Path.{_≡_, refl, sym, ap, _∙_}
 use mathlib.Core.List.{List}
 use lib.ListN.{length, length-set}
@@ -10,7 +10,6 @@ use Rattle.coefficients.proofs.Filling.{filled-put, entries}
 use native.Mathlib.Omega.{arith}
 use Rattle.coefficients.proofs.ideal.put.Statement.{statement}
 use Rattle.coefficients.proofs.ideal.put.Tie as tie
-use Prim.Native.Nat.{ℕ}
 
 abbrev Inv-loop : tie.InvT-loop
 Inv-loop values out₀ size i₀ out i = (i ≤ length values) × (length out ≡ length out₀) × (out ≡ filled i (entry values) out₀)

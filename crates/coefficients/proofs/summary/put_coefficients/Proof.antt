@@ -1,10 +1,10 @@
 use Prim.Native.Nat.{ℕ}
-use mathlib.Core.Path.{_≡_, ap, ap₂, _∙_}
+use mathlib.Core.Path.{ap, ap₂, _∙_}
 use mathlib.Core.Bool.{true}
 use mathlib.Core.List.{List}
 use Rattle.numbers.specs.Sums.{list}
 use Rattle.circuit.specs.Bytes.{putAt}
-use Rattle.coefficients.specs.Working.{gathered, weighed}
+use Rattle.coefficients.specs.Working.{weighed}
 use Rattle.coefficients.proofs.Gathering.{length-gathered}
 use borrow.Author.Needs.{needs}
 use Rattle.coefficients.proofs.summary.put_coefficients.Statement.{statement}

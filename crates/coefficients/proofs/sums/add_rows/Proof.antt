@@ -13,6 +13,9 @@ Inv-loop v₀ to from count i₀ v i = Adding to from count v₀ v i
 abbrev μ-loop : tie.MeasureT-loop
 μ-loop v₀ to from count i₀ v i = count - i
 
+abbrev loop : tie.After-wrapping-add-u16 Inv-loop μ-loop → tie.At-loop Inv-loop μ-loop
+loop c = c .before .before .before .before
+
 loop-holds : tie.Need-loop-holds Inv-loop μ-loop
 loop-holds c = adding-starts (c .before .args .to) (c .before .args .from) (c .before .args .count) (c .before .args .v .now)
 
@@ -44,7 +47,7 @@ mul-v : tie.Need-mul-v Inv-loop μ-loop
 mul-v c = omega arith
 
 slice-write-v : tie.Need-slice-write-v Inv-loop μ-loop
-slice-write-v c = omega (arith, c .before .before .before .before .loop .inv .added .long)
+slice-write-v c = omega (arith, loop c .loop .inv .added .long)
 
 add-i : tie.Need-add-i Inv-loop μ-loop
 add-i c = omega arith
@@ -54,9 +57,9 @@ loop-less c = omega arith
 
 loop-again : tie.Need-loop-again Inv-loop μ-loop
 loop-again c =
-    let s = c .before .before .before .before .before .before in
+    let s = loop c .before .before in
     let a = s .args in
-    let l = c .before .before .before .before .loop in
+    let l = loop c .loop in
     adding-again (a .to) (a .from) (a .count) (a .v .now) (l .v) (l .i) (s .pre .0) (s .pre .1 .1) (l .inv) (omega arith) (c .wrapping-add-u16 .result) (c .wrapping-add-u16 .ensures)
 
 same-length : tie.Need-same-length Inv-loop μ-loop

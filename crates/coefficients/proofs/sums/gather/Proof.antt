@@ -1,4 +1,5 @@
 use Prim.Native.Nat.{_-_}
+use Rattle.running.specs.Masks.{mostMasks}
 use Rattle.coefficients.proofs.Blocks.{Grown, grown-starts, grown-again, blocks-end}
 use native.Mathlib.Omega.{arith}
 use borrow.Author.Needs.{needs}
@@ -9,7 +10,7 @@ abbrev Inv-loop : tie.InvT-loop
 Inv-loop v₀ up half₀ v half = Grown up v₀ v half
 
 abbrev μ-loop : tie.MeasureT-loop
-μ-loop v₀ up half₀ v half = 1024 - half
+μ-loop v₀ up half₀ v half = mostMasks - half
 
 loop-holds : tie.Need-loop-holds Inv-loop μ-loop
 loop-holds c =

@@ -1,5 +1,6 @@
 use Prim.Native.Nat.{_+_, _-_}
 use mathlib.Core.Path.{sym}
+use Rattle.running.specs.Masks.{mostMasks}
 use Rattle.coefficients.specs.Working.{joined}
 use Rattle.coefficients.proofs.Blocks.{Walked, walk-starts, part-long, walk-again, walk-ends, length-joined}
 use native.Mathlib.Omega.{arith}
@@ -11,7 +12,7 @@ abbrev Inv-loop : tie.InvT-loop
 Inv-loop v₀ half up size at₀ v at = Walked (joined up half) (half + half) v₀ v at
 
 abbrev μ-loop : tie.MeasureT-loop
-μ-loop v₀ half up size at₀ v at = 1024 - at
+μ-loop v₀ half up size at₀ v at = mostMasks - at
 
 add-size : tie.Need-add-size Inv-loop μ-loop
 add-size c = search needs
@@ -41,8 +42,9 @@ part-join-halves-end c = search needs
 
 join-halves-requires : tie.Need-join-halves-requires Inv-loop μ-loop
 join-halves-requires c κs =
-    let l = c .before .before .loop in
-    let a = c .before .before .before .before .args in
+    let at = c .before .before in
+    let l = at .loop in
+    let a = at .before .before .args in
     sym (part-long (joined (a .up) (a .half)) (a .half + a .half) (a .v .now) (l .v) (l .at) (l .inv) (omega (arith, l .inv .long)))
 
 add-at : tie.Need-add-at Inv-loop μ-loop
@@ -53,9 +55,11 @@ loop-less c = search needs
 
 loop-again : tie.Need-loop-again Inv-loop μ-loop
 loop-again c =
-    let l = c .before .before .before .before .before .loop in
-    let a = c .before .before .before .before .before .before .before .args in
-    let m = c .before .before .join-halves in
+    let joins = c .before .before in
+    let at = joins .before .before .before in
+    let l = at .loop in
+    let a = at .before .before .args in
+    let m = joins .join-halves in
     walk-again (joined (a .up) (a .half)) (a .half + a .half) (a .v .now) (l .v) (l .at) (l .inv) (length-joined (a .up) (a .half)) (omega (arith, l .inv .long)) (m .last .0) (m .kept .0) (m .ensures)
 
 same-length : tie.Need-same-length Inv-loop μ-loop

@@ -1,5 +1,4 @@
 use native.Mathlib.Omega.{arith}
-use mathlib.Core.Path.{_∙_}
 use Rattle.coefficients.proofs.Weighing.{few-ones, weight-at}
 use Rattle.coefficients.proofs.weights.weight.Statement.{statement}
 use Rattle.coefficients.proofs.weights.weight.Tie as tie

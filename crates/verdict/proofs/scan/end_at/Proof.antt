@@ -1,11 +1,10 @@
-use Prim.Native.Nat.{_-_, _≤_}
+use Prim.Native.Nat.{ℕ, _-_, _≤_}
 use mathlib.Core.Path.{_≡_, ap, _∙_}
 use native.Mathlib.Omega.{arith}
 use Rattle.verdict.specs.Working.{entry, endOf}
 use Rattle.verdict.proofs.Judging.{end-none, end-next}
 use Rattle.verdict.proofs.scan.end_at.Statement.{statement}
 use Rattle.verdict.proofs.scan.end_at.Tie as tie
-use Prim.Native.Nat.{ℕ}
 
 abbrev Inv-loop : tie.InvT-loop
 Inv-loop ends wires state count end₀ i₀ end i = (i ≤ wires) × (end ≡ endOf i (entry ends) state)
