@@ -80,7 +80,7 @@ parity (suc w) m x hm hx =
     last zero b d ha hb hd = ≈-of (omega arith)
     last (suc zero) zero d ha hb hd = ≈-of (omega arith)
     last (suc zero) (suc zero) zero ha hb hd = ≈-of refl
-    last (suc zero) (suc zero) (suc zero) ha hb hd = record { turned = refl }
+    last (suc zero) (suc zero) (suc zero) ha hb hd = record { alike = refl }
     last (suc zero) (suc zero) (suc (suc d)) ha hb hd = absurd (omega arith)
     last (suc zero) (suc (suc b)) d ha hb hd = absurd (omega arith)
     last (suc (suc a)) b d ha hb hd = absurd (omega arith)

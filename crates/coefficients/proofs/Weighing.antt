@@ -28,4 +28,4 @@ pub weight-at : (s : ℕ) → s < mostMasks → entry table (ones s) ≡ weightA
 weight-at s h = ap (λ (l : List ℕ). entry l (ones s)) all-weights ∙ getD-list 11 (λ k. weightOf k % 65536) (ones s) 0 (few-ones s h)
 
 pub weighs : (v : List ℕ) (s weight value : ℕ) → weight ≡ weightAt s → value ≡ weight * entry v s % 65536 → value ≡ weighed v s
-weighs v s weight value e q = q ∙ ap (λ (n : ℕ). n * entry v s % 65536) e ∙ ≈-scale (entry v s) (≈-mod (weightOf (ones s))) .turned
+weighs v s weight value e q = q ∙ ap (λ (n : ℕ). n * entry v s % 65536) e ∙ ≈-scale (entry v s) (≈-mod (weightOf (ones s))) .alike

@@ -15,7 +15,7 @@ use Rattle.refusal.specs.Contract.{Meets}
 use Rattle.refusal.proofs.Outcomes.{reaches, then-passed}
 use Rattle.refusal.proofs.Rooms.{earlier-refused, refused-earlier, answers-whole}
 use Rattle.table.specs.Table.{tableChecks, valueAt}
-use Rattle.table.proofs.Tables.{good-variables}
+use Rattle.table.proofs.Callers.{good-variables}
 use Rattle.circuit.specs.File.{fileChecks, wiresOf, gatesOf}
 use Rattle.circuit.specs.Bytes.{Bytes}
 use Rattle.build.specs.declared.Built.{Built}

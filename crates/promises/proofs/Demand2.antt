@@ -11,7 +11,7 @@ use Rattle.refusal.specs.Checks.{passed, outcome}
 use Rattle.refusal.proofs.Outcomes.{front-passes}
 use Rattle.refusal.proofs.Contracts.{when-passed}
 use Rattle.table.specs.Table.{tableChecks, valueAt}
-use Rattle.table.proofs.Tables.{good-variables}
+use Rattle.table.proofs.Callers.{good-variables}
 use Rattle.spectrum.specs.declared.Transformed.{Transformed}
 use Rattle.spectrum.specs.declared.Transformed.the-variants.{Entries}
 use Rattle.spectrum.specs.Spectrum.{coefficient, spectrumOf, spectrumChecks, transformedSays, Transforms}

@@ -6,7 +6,7 @@ use mathlib.Core.List.{List}
 use lib.IntN.{ℤ}
 use Rattle.refusal.proofs.Contracts.{one-said, one-answer}
 use Rattle.table.specs.Table.{Checks}
-use Rattle.table.proofs.Tables.{checked-distinct}
+use Rattle.table.proofs.Callers.{checked-distinct}
 use Rattle.spectrum.specs.Spectrum.{transformedSays, Transforms}
 use Rattle.spectrum.proofs.Answers.{transformed-distinct}
 use Rattle.circuit.specs.declared.Decoded.{Decoded}

@@ -46,7 +46,7 @@ module _ (w : ℕ) (a b : Side) (c d : ℕ → ℕ) (sa : Summed w a c) (sb : Su
         ≈∙ ≈-add (≈-sym (sb .polynomial x h ≈∙ ≈-of (up-to w x d h))) (≈-refl {a = c x})
 
     pub phase-difference : difference (a .phase x) (b .phase x) ≡ difference (c x) (d x)
-    phase-difference = off (a .phase x) (b .phase x) (c x) (d x) (sb .phases x) (sb .small x) triangular .turned
+    phase-difference = off (a .phase x) (b .phase x) (c x) (d x) (sb .phases x) (sb .small x) triangular .alike
       where
         off : (p q m n : ℕ) → q < 65536 → n < 65536 → p + n ≈ q + m → p + 65536 - q ≈ m + 65536 - n
         off p q m n hq hn e =

@@ -12,7 +12,7 @@ use Rattle.refusal.specs.Checks.{passed, outcome}
 use Rattle.table.specs.declared.Checked.{Checked}
 use Rattle.table.specs.declared.Checked.the-variants.{Good}
 use Rattle.table.specs.Table.{tableChecks, valueAt}
-use Rattle.table.proofs.Tables.{good-variables}
+use Rattle.table.proofs.Callers.{good-variables}
 use Rattle.circuit.specs.declared.Reading.{Reading}
 use Rattle.circuit.specs.declared.Reading.the-variants.{Circuit}
 use Rattle.circuit.specs.Bytes.{Bytes, putAt}

@@ -1,6 +1,6 @@
 use Prim.Native.Nat.{ℕ, _+_, _-_, _^_, _≤_}
 use native.Mathlib.Omega.{arith}
-use mathlib.Core.Path.{_≡_, refl, sym, ap, subst, _∙_}
+use mathlib.Core.Path.{_≡_, refl, sym, ap, _∙_}
 use mathlib.Core.List.{List, []}
 use lib.ListN.{length}
 use lib.Seq.{length-take-le}
@@ -10,9 +10,8 @@ use borrow.Rule.Slice.PartMut.{mid-len}
 use Rattle.numbers.specs.Sums.{list}
 use Rattle.numbers.proofs.Powers.{small-power}
 use Rattle.refusal.specs.Checks.{outcome, passed}
-use Rattle.refusal.specs.Contract.{Says}
 use Rattle.table.specs.Table.{tableChecks, valueAt, checkedSays}
-use Rattle.table.proofs.Tables.{table-refused, table-passed, good-variables}
+use Rattle.table.proofs.Callers.{check-answers, check-refuses, good-variables}
 use Rattle.circuit.specs.Bytes.{putAt}
 use Rattle.coefficients.specs.Coefficients.{idealCoefficient, idealCoefficients, idealEnds}
 use Rattle.coefficients.proofs.Turning.{ideal-fits, ideal-row, some-powers}
@@ -44,7 +43,7 @@ good c =
     let told = c .before in
     let check = told .before .before in
     let a = start check .args in
-    table-passed (a .n) (a .table .now) (subst (Says checkedSays (outcome (tableChecks (a .n) (a .table .now))) []) (told .enum-told .given .1) (check .check .ensures))
+    check-answers (a .n) (a .table .now) (check .check .result) (check .check .ensures) (told .enum-told .given .1)
 
 few : (c : tie.After-power) → begun c .args .n ≤ 8
 few c = let a = begun c .args in good-variables (a .n) (a .table .now) (good c) .1
@@ -77,7 +76,7 @@ returns c =
     let o = outcome (tableChecks (a .n) (a .table .now)) in
     let v = refused .refusal .given in
     sums-refused checkedSays o [] (idealCoefficients (a .n) (valueAt (a .table .now))) (idealEnds (a .n)) (a .row .now) (a .ends .now) _ (v .0 .0) refl
-    (table-refused (a .n) (a .table .now) (v .0 .0) (subst (Says checkedSays o []) (v .1) (check .check .ensures)))
+    (check-refuses (a .n) (a .table .now) (check .check .result) (check .check .ensures) (v .0 .0) (v .1))
 
 enum-told : tie.Need-enum-told
 enum-told c = search needs
