@@ -1,8 +1,10 @@
 use borrow.Author.Needs.{needs}
+use Rattle.circuit.specs.Gates.{bytesOf}
 use Rattle.build.proofs.block.first_quarter.Statement.{statement}
 use Rattle.build.proofs.block.first_quarter.Tie as tie
 
 put-requires : tie.Need-put-requires
+unfolding bytesOf
 put-requires c κs = search needs
 
 same-length : tie.Need-same-length
