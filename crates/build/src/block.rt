@@ -79,7 +79,7 @@ fn put_pair(i: u8, angle: u16, control: u8, out: &mut [u8], at: usize) -> usize
 }
 
 fn put(gate: Gate, out: &mut [u8], at: usize) -> usize
-    requires { ⌜ at + length (bytesOf (gate ∷ [])) ≤ length (now out) ⌝ }
+    requires { ⌜ at + 4 ≤ length (now out) ⌝ }
     ensures { λ r. ⌜ Wrote (bytesOf (gate ∷ [])) at (now (out .entry)) r (now (out .exit)) ⌝ }
 {
     circuit::put_gate(gate, out, at);

@@ -35,7 +35,7 @@ powered c = c .before .before .before
 written : (c : tie.After-write-signs) → let p = powered c in let a = start (p .before) .args in Signs (a .n) (a .table .now) (a .out .now) (c .write-signs .last .1 .0) (p .power .result)
 written c =
     let p = powered c in
-    record { small = small (p .before); count = entries p; fits = c .before .before .if1 .left; each = c .write-signs .ensures }
+    record { small = small (p .before); count = entries p; fits = omega arith; each = c .write-signs .ensures }
 
 check-requires : tie.Need-check-requires
 check-requires c κs = search needs

@@ -1,7 +1,4 @@
 use borrow.Author.Needs.{needs}
-use native.Mathlib.Omega.{arith}
-use mathlib.Core.List.{[], _∷_}
-use Rattle.circuit.proofs.Decoding.{length-bytes}
 use Rattle.build.proofs.Pieces.{wrote-gate}
 use Rattle.build.proofs.block.put.Statement.{statement}
 use Rattle.build.proofs.block.put.Tie as tie
@@ -13,7 +10,7 @@ abbrev start : tie.After-slice-known2 → tie.Start
 start c = c .before .before .before .before .before
 
 add-result : tie.Need-add-result
-add-result c = omega (arith, length-bytes (start c .args .gate ∷ []))
+add-result c = search needs
 
 same-length : tie.Need-same-length
 same-length c = search needs

@@ -1,11 +1,11 @@
 use borrow.Author.Needs.{needs}
-use Prim.Native.Nat.{_+_}
+use native.Mathlib.Omega.{arith}
 use mathlib.Core.List.{List, [], _∷_, _++_}
 use Rattle.circuit.specs.declared.Gate.{Gate}
 use Rattle.circuit.specs.declared.Gate.the-variants.{Cnot, Phase}
 use Rattle.circuit.specs.Gates.{bytesOf}
-use Rattle.circuit.proofs.Decoding.{bytes-append}
-use Rattle.circuit.proofs.Parts.{Left, all-left, room, less-left, all-written}
+use Rattle.circuit.proofs.Decoding.{bytes-append, length-bytes}
+use Rattle.circuit.proofs.Parts.{Left, all-left, less-left, all-written}
 use Rattle.build.proofs.block.put_pair.Statement.{statement}
 use Rattle.build.proofs.block.put_pair.Tie as tie
 
@@ -19,14 +19,16 @@ none-done : (s : tie.Start) → Left (bytesOf (phase s ++ cnot s)) (s .args .at)
 none-done s = all-left (s .args .at) (s .args .out .now) (bytes-append (phase s) (cnot s)) (s .pre)
 
 put-requires : tie.Need-put-requires
-put-requires c κs = let s = c .before .before in room (bytesOf (phase s)) (bytesOf (cnot s)) (none-done s)
+put-requires c κs = let s = c .before .before in omega (arith, s .pre, length-bytes (phase s ++ cnot s))
 
 -- the phase is written
 phase-done : (c : tie.After-put) → let s = c .before .before .before in Left (bytesOf (phase s ++ cnot s)) (s .args .at) (s .args .out .now) (bytesOf (cnot s)) (c .put .result) (c .put .last .1 .0)
 phase-done c = let s = c .before .before .before in less-left (bytesOf (phase s)) (bytesOf (cnot s)) (none-done s) (c .put .ensures)
 
 put-requires-2 : tie.Need-put-requires-2
-put-requires-2 c κs = phase-done (c .before .before .before) .fits
+put-requires-2 c κs =
+    let p = c .before .before .before in
+    omega (arith, phase-done p .fits, length-bytes (cnot (p .before .before .before)))
 
 same-length : tie.Need-same-length
 same-length c = search needs

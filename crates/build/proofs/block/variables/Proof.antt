@@ -9,6 +9,7 @@ use Rattle.numbers.proofs.Powers.{power-fits}
 use Rattle.circuit.specs.declared.Gate.{Gate}
 use Rattle.circuit.specs.declared.Gate.the-variants.{Phase}
 use Rattle.circuit.specs.Gates.{bytesOf}
+use Rattle.circuit.proofs.Decoding.{length-bytes}
 use Rattle.circuit.proofs.Parts.{Left, all-left, room, less-left, all-written, none-left}
 use Rattle.build.specs.Construction.{block, variables}
 use Rattle.build.proofs.Pieces.{left, none-yet, next-left, none-after, first-block, angles-enough}
@@ -49,7 +50,7 @@ entry c = c .before .before .before .before
 put-requires : tie.Need-put-requires Inv-loop μ-loop
 put-requires c κs =
     let s = entry c in
-    room (bytesOf (phase s)) (left (s .args .n) (blockOf (s .args .angles .now)) 1) (none-done s)
+    omega (arith, room (bytesOf (phase s)) (left (s .args .n) (blockOf (s .args .angles .now)) 1) (none-done s), length-bytes (phase s))
 
 first-done : (c : tie.After-put Inv-loop μ-loop) → let a = entry (c .before) .args in
     Left (bytesOf (variables (a .n) (angleOf (a .angles .now)))) (a .at) (a .out .now) (left (a .n) (blockOf (a .angles .now)) 1) (c .put .result) (c .put .last .1 .0)
