@@ -2,7 +2,7 @@
 use Prim.Native.Nat.{ℕ, _+_, _<_, _≤_}
 use native.Mathlib.Omega.{arith}
 use native.Mathlib.Nat.{zero-add}
-use mathlib.Core.Path.{_≡_, sym, ap, _∙_}
+use mathlib.Core.Path.{_≡_, ap, _∙_}
 use mathlib.Core.List.{List, [], _∷_}
 use lib.ListN.{length, getD, drop, List·getD-append}
 use Rattle.numbers.specs.Sums.{list}
@@ -10,7 +10,7 @@ use Rattle.numbers.proofs.Lists.{length-list, getD-list}
 use Rattle.refusal.specs.declared.Refusal.{Refusal}
 use Rattle.refusal.specs.Checks.{Outcome, passed, refused, outcome}
 use Rattle.refusal.specs.Contract.{Said, values, saidOf}
-use Rattle.refusal.proofs.Contracts.{says-refused, says-values}
+use Rattle.refusal.proofs.Contracts.{answers-values, answers-refusal}
 use Rattle.table.specs.declared.Checked.{Checked}
 use Rattle.table.specs.declared.Checked.the-variants.{Good, Refused as BadTable}
 use Rattle.table.specs.Table.{tableChecks, valueAt, checkedSays}
@@ -37,12 +37,12 @@ pub record Unsummed (o : Outcome) (r : Refusal) (row₀ ends₀ row₁ ends₁ :
 module _ {Answer : Type 0} (said : Answer → Said) (o : Outcome) (vs cs es row₀ ends₀ : List ℕ) (answer : Answer) (row₁ ends₁ : List ℕ) (s : SumsUp said o vs cs es row₀ ends₀ answer row₁ ends₁) where
   answers : (ws : List ℕ) → said answer ≡ values ws → Summed o cs es row₀ ends₀ row₁ ends₁ × (ws ≡ vs)
   answers ws e =
-      let v = says-values o vs ws (sym e ∙ s .says) in
+      let v = answers-values said o vs answer (s .says) ws e in
       (record { passes = v .0; row = rw (v .0) at (s .row); ends = rw (v .0) at (s .ends) }, v .1)
 
   refuses : (r : Refusal) → said answer ≡ saidOf r → Unsummed o r row₀ ends₀ row₁ ends₁
   refuses r e =
-      let q = says-refused o vs r (sym e ∙ s .says) in
+      let q = answers-refusal said o vs answer (s .says) r e in
       record { refuses = q; row = rw q at (s .row); ends = rw q at (s .ends) }
 
 module _ (side : ℕ) (f row₀ ends₀ : List ℕ) (answer : Reading) (row₁ ends₁ : List ℕ) (s : Summarises side f row₀ ends₀ answer row₁ ends₁) where

@@ -8,9 +8,9 @@ use Rattle.refusal.specs.declared.Refusal.{Refusal}
 use Rattle.refusal.specs.Names.{refusal, UNLIKE, ROOM}
 use Rattle.refusal.specs.Checks.{Check, check, other, Outcome, passed, refused, outcome}
 use Rattle.refusal.specs.Contract.{values, Meets}
-use Rattle.refusal.proofs.Outcomes.{reaches, then-refused, then-passed}
+use Rattle.refusal.proofs.Outcomes.{reaches, then-passed}
 use Rattle.refusal.proofs.Passed.{passed-fail}
-use Rattle.refusal.proofs.Contracts.{Distinct, same-refusal, meets-refused}
+use Rattle.refusal.proofs.Contracts.{Distinct, same-refusal}
 use Rattle.refusal.proofs.Rooms.{earlier-refused, room-refused, room-enough}
 use Rattle.verdict.specs.declared.Verdict.{Verdict}
 use Rattle.verdict.specs.declared.Verdict.the-variants.{Same, Different}
@@ -51,30 +51,13 @@ module _ (w v : ℕ) (vs result before : List ℕ) where
     pub work-enough : 2 ^ w ≤ length before → (d : Verdict) → verdictValues d ≡ vs → (after : List ℕ) → after ≡ result ++ drop (length result) before → Works (Found d) after
     work-enough k d e after q = room-enough comparedSays unlikeCheck (2 ^ w) vs result before alike k (Found d) after (ap values e) q
 
--- two lists of checks on the inputs, then those on wires and work
-module _ (xs ys : List Check) (w v : ℕ) (vs result before : List ℕ) where
-  abbrev all : Outcome
-  all = outcome (xs ++ (ys ++ workChecks w v (length before)))
-
-  abbrev Answers : Compared → List ℕ → Type 0
-  Answers answer after = Meets comparedSays all vs result before answer after
-
-  pub first-refused : (r : Refusal) → outcome xs ≡ refused r → Answers (Refused r) before
-  first-refused r e = meets-refused comparedSays all vs result before (Refused r) r refl (then-refused xs (ys ++ workChecks w v (length before)) r e)
-
-  module _ (p : outcome xs ≡ passed) where
-    pub second-refused : (r : Refusal) → outcome ys ≡ refused r → Answers (Refused r) before
-    second-refused r e =
-        meets-refused comparedSays all vs result before (Refused r) r refl
-        (then-passed xs (ys ++ workChecks w v (length before)) p ∙ then-refused ys (workChecks w v (length before)) r e)
-
-    -- both inputs pass: the summaries' judgement, whose numbers count where the wires are alike
-    pub both-passed : outcome ys ≡ passed → {vs′ result′ : List ℕ} → (w ≡ v → (vs′ ≡ vs) × (result′ ≡ result)) → (answer : Compared) (after : List ℕ)
-        → Meets comparedSays (outcome (workChecks w v (length before))) vs′ result′ before answer after → Answers answer after
-    both-passed q {vs′} {result′} same answer after m = rw (then-passed xs (ys ++ workChecks w v (length before)) p ∙ then-passed ys (workChecks w v (length before)) q) (by (outcome (workChecks w v (length before))) refl m)
-      where
-        by : (o : Outcome) → outcome (workChecks w v (length before)) ≡ o → Meets comparedSays o vs′ result′ before answer after → Meets comparedSays o vs result before answer after
-        by (refused r) e n = record { says = n .says; leaves = n .leaves }
-        by passed e n =
-            let s = same (passed-fail (workChecks w v (length before)) e .0) in
-            record { says = n .says ∙ ap values (s .0); leaves = n .leaves ∙ ap (λ (l : List ℕ). l ++ drop (length l) before) (s .1) }
+-- both inputs pass, and then the checks on wires and work: the summaries' judgement, whose numbers count where the wires are alike
+pub both-passed : (xs ys : List Check) (w v : ℕ) (vs result before : List ℕ) → outcome xs ≡ passed → outcome ys ≡ passed → {vs′ result′ : List ℕ} → (w ≡ v → (vs′ ≡ vs) × (result′ ≡ result)) → (answer : Compared) (after : List ℕ)
+    → Meets comparedSays (outcome (workChecks w v (length before))) vs′ result′ before answer after → Meets comparedSays (outcome (xs ++ (ys ++ workChecks w v (length before)))) vs result before answer after
+both-passed xs ys w v vs result before p q {vs′} {result′} same answer after m = rw (then-passed xs (ys ++ workChecks w v (length before)) p ∙ then-passed ys (workChecks w v (length before)) q) (by (outcome (workChecks w v (length before))) refl m)
+  where
+    by : (o : Outcome) → outcome (workChecks w v (length before)) ≡ o → Meets comparedSays o vs′ result′ before answer after → Meets comparedSays o vs result before answer after
+    by (refused r) e n = record { says = n .says; leaves = n .leaves }
+    by passed e n =
+        let s = same (passed-fail (workChecks w v (length before)) e .0) in
+        record { says = n .says ∙ ap values (s .0); leaves = n .leaves ∙ ap (λ (l : List ℕ). l ++ drop (length l) before) (s .1) }

@@ -8,7 +8,7 @@ use Rattle.refusal.specs.declared.Refusal.{Refusal}
 use Rattle.refusal.specs.Checks.{Outcome, passed, refused, outcome}
 use Rattle.refusal.specs.Contract.{Meets}
 use Rattle.refusal.proofs.Outcomes.{reaches, then-passed}
-use Rattle.refusal.proofs.Contracts.{when-passed, says-refused, says-values}
+use Rattle.refusal.proofs.Contracts.{when-passed, meets-values, meets-refusal}
 use Rattle.table.specs.Table.{tableChecks, valueAt}
 use Rattle.circuit.specs.File.{wiresOf, gatesOf, fileChecks}
 use Rattle.coefficients.specs.Coefficients.{coefficient, idealCoefficient}
@@ -28,16 +28,14 @@ module _ (o : Outcome) (w : ℕ) (a b : Side) (result before : List ℕ) (answer
 
   finds : (v : Verdict) → answer ≡ Found v → (o ≡ passed) × (v ≡ verdict w a b)
   finds v e =
-      let r = says-values o (verdictValues (verdict w a b)) (verdictValues v) (sym (ap comparedSays e) ∙ m .says) in
+      let r = meets-values comparedSays o (verdictValues (verdict w a b)) result before answer after m (verdictValues v) (ap comparedSays e) in
       (r .0, verdict-distinct v (verdict w a b) (r .1))
 
   writes : (v : Verdict) → answer ≡ Found v → after ≡ result ++ drop (length result) before
-  writes v e = let p = finds v e .0 in rw p at (m .leaves)
+  writes v e = meets-values comparedSays o (verdictValues (verdict w a b)) result before answer after m (verdictValues v) (ap comparedSays e) .2
 
   refuses : (r : Refusal) → answer ≡ Refused r → (o ≡ refused r) × (after ≡ before)
-  refuses r e =
-      let q = says-refused o (verdictValues (verdict w a b)) r (sym (ap comparedSays e) ∙ m .says) in
-      (q, rw q at (m .leaves))
+  refuses r e = meets-refusal comparedSays o (verdictValues (verdict w a b)) result before answer after m r (ap comparedSays e)
 
   below : (s e f p : ℕ) → answer ≡ Found (Different s e f p) → s < 2 ^ w
   below s e f p q = different-named a b w s e f p (sym (finds (Different s e f p) q .1)) .below

@@ -38,10 +38,6 @@ module _ (f g : ℕ → ℕ) (n : ℕ) where
   pub unlike-least : (p : ℕ) → Lowest Alike n p → p ≡ least (unlike f g) n 0
   unlike-least p l = lowest-one Alike n p (least (unlike f g) n 0) l unlike-found
 
--- wrapping subtraction
-pub subtracted : (a b r : ℕ) → r < 65536 → b < 65536 → (r + b) % 65536 ≡ a → r ≡ difference a b
-subtracted a b r hr hb e = omega arith
-
 -- one bit more
 pub end-next : (ends : ℕ → ℕ) (state end i r : ℕ) → end ≡ endOf i ends state → r ≡ bit state i * ends i → bitXor end r ≡ endOf (i + 1) ends state
 unfolding endOf

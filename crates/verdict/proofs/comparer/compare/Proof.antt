@@ -1,12 +1,16 @@
 use mathlib.Core.Path.{refl}
 use borrow.Author.Needs.{needs}
+use lib.ListN.{length}
+use mathlib.Core.List.{_++_}
+use Rattle.refusal.proofs.Outcomes.{then-refused}
+use Rattle.refusal.proofs.Contracts.{first-refuses, second-refuses}
 use Rattle.circuit.specs.File.{wiresOf, gatesOf, fileChecks}
 use Rattle.coefficients.specs.Coefficients.{coefficient}
 use Rattle.coefficients.proofs.Callers.{summarise-refuses}
 use Rattle.verdict.specs.Verdicts.{circuit, verdict, differences}
-use Rattle.verdict.specs.Judging.{verdictValues}
+use Rattle.verdict.specs.Judging.{verdictValues, comparedSays, workChecks}
+use Rattle.verdict.specs.declared.Compared.the-variants.{Refused}
 use Rattle.verdict.proofs.Summing.{FileSums, file-sums, compare-judges}
-use Rattle.verdict.proofs.Answers.{first-refused, second-refused}
 use Rattle.verdict.proofs.comparer.compare.Statement.{statement}
 use Rattle.verdict.proofs.comparer.compare.Tie as tie
 
@@ -77,7 +81,7 @@ returns c =
     let f = a .first .now in
     let g = a .second .now in
     let v = c .before .refusal .given in
-    first-refused (fileChecks 0 f) (fileChecks 1 g) (wiresOf f) (wiresOf g) (verdictValues (verdict (wiresOf f) (circuit (gatesOf f)) (circuit (gatesOf g)))) (differences (wiresOf f) (coefficient (wiresOf f) (gatesOf f)) (coefficient (wiresOf f) (gatesOf g))) (a .work .now) (v .0 .0) (summarise-refuses 0 f _ _ (s .summarise .result) _ _ (s .summarise .ensures) (v .0 .0) (v .1) .refuses)
+    first-refuses comparedSays (fileChecks 0 f) (fileChecks 1 g ++ workChecks (wiresOf f) (wiresOf g) (length (a .work .now))) (verdictValues (verdict (wiresOf f) (circuit (gatesOf f)) (circuit (gatesOf g)))) (differences (wiresOf f) (coefficient (wiresOf f) (gatesOf f)) (coefficient (wiresOf f) (gatesOf g))) (a .work .now) (Refused (v .0 .0)) (v .0 .0) refl (summarise-refuses 0 f _ _ (s .summarise .result) _ _ (s .summarise .ensures) (v .0 .0) (v .1) .refuses)
 
 enum-known-wires : tie.Need-enum-known-wires
 enum-known-wires c = search needs
@@ -122,7 +126,7 @@ returns-2 c =
     let f = a .first .now in
     let g = a .second .now in
     let v = c .before .refusal2 .given in
-    second-refused (fileChecks 0 f) (fileChecks 1 g) (wiresOf f) (wiresOf g) (verdictValues (verdict (wiresOf f) (circuit (gatesOf f)) (circuit (gatesOf g)))) (differences (wiresOf f) (coefficient (wiresOf f) (gatesOf f)) (coefficient (wiresOf f) (gatesOf g))) (a .work .now) (first-sums t .good) (v .0 .0) (summarise-refuses 1 g _ _ (z .summarise2 .result) _ _ (z .summarise2 .ensures) (v .0 .0) (v .1) .refuses)
+    second-refuses comparedSays (fileChecks 0 f) (fileChecks 1 g ++ workChecks (wiresOf f) (wiresOf g) (length (a .work .now))) (verdictValues (verdict (wiresOf f) (circuit (gatesOf f)) (circuit (gatesOf g)))) (differences (wiresOf f) (coefficient (wiresOf f) (gatesOf f)) (coefficient (wiresOf f) (gatesOf g))) (a .work .now) (first-sums t .good) (Refused (v .0 .0)) (v .0 .0) refl (then-refused (fileChecks 1 g) (workChecks (wiresOf f) (wiresOf g) (length (a .work .now))) (v .0 .0) (summarise-refuses 1 g _ _ (z .summarise2 .result) _ _ (z .summarise2 .ensures) (v .0 .0) (v .1) .refuses))
 
 same-length : tie.Need-same-length
 same-length c = search needs

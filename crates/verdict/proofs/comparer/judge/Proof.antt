@@ -2,14 +2,18 @@ use native.Mathlib.Omega.{arith}
 use mathlib.Core.Path.{refl}
 use Prim.Native.Nat.{_+_}
 use borrow.Author.Needs.{needs}
+use lib.ListN.{length}
+use mathlib.Core.List.{_++_}
+use Rattle.refusal.proofs.Outcomes.{then-refused}
+use Rattle.refusal.proofs.Contracts.{first-refuses, second-refuses}
 use Rattle.table.specs.Table.{tableChecks, valueAt}
 use Rattle.circuit.specs.File.{wiresOf, gatesOf, fileChecks}
 use Rattle.coefficients.specs.Coefficients.{coefficient, idealCoefficient}
 use Rattle.coefficients.proofs.Callers.{summarise-refuses, ideal-refuses}
 use Rattle.verdict.specs.Verdicts.{circuit, ideal, verdict, differences}
-use Rattle.verdict.specs.Judging.{verdictValues}
+use Rattle.verdict.specs.Judging.{verdictValues, comparedSays, workChecks}
+use Rattle.verdict.specs.declared.Compared.the-variants.{Refused}
 use Rattle.verdict.proofs.Summing.{FileSums, TableSums, file-sums, table-sums, judge-judges}
-use Rattle.verdict.proofs.Answers.{first-refused, second-refused}
 use Rattle.verdict.proofs.comparer.judge.Statement.{statement}
 use Rattle.verdict.proofs.comparer.judge.Tie as tie
 
@@ -79,7 +83,7 @@ returns c =
     let f = a .file .now in
     let t = a .table .now in
     let v = c .before .refusal .given in
-    first-refused (tableChecks (a .n) t) (fileChecks 0 f) (wiresOf f) (a .n + 1) (verdictValues (verdict (wiresOf f) (circuit (gatesOf f)) (ideal (a .n) (valueAt t)))) (differences (wiresOf f) (coefficient (wiresOf f) (gatesOf f)) (idealCoefficient (a .n) (valueAt t))) (a .work .now) (v .0 .0) (ideal-refuses (a .n) t _ _ (s .summarise-ideal .result) _ _ (s .summarise-ideal .ensures) (v .0 .0) (v .1) .refuses)
+    first-refuses comparedSays (tableChecks (a .n) t) (fileChecks 0 f ++ workChecks (wiresOf f) (a .n + 1) (length (a .work .now))) (verdictValues (verdict (wiresOf f) (circuit (gatesOf f)) (ideal (a .n) (valueAt t)))) (differences (wiresOf f) (coefficient (wiresOf f) (gatesOf f)) (idealCoefficient (a .n) (valueAt t))) (a .work .now) (Refused (v .0 .0)) (v .0 .0) refl (ideal-refuses (a .n) t _ _ (s .summarise-ideal .result) _ _ (s .summarise-ideal .ensures) (v .0 .0) (v .1) .refuses)
 
 enum-told : tie.Need-enum-told
 enum-told c = search needs
@@ -129,7 +133,7 @@ returns-2 c =
     let f = a .file .now in
     let t = a .table .now in
     let v = c .before .refusal2 .given in
-    second-refused (tableChecks (a .n) t) (fileChecks 0 f) (wiresOf f) (a .n + 1) (verdictValues (verdict (wiresOf f) (circuit (gatesOf f)) (ideal (a .n) (valueAt t)))) (differences (wiresOf f) (coefficient (wiresOf f) (gatesOf f)) (idealCoefficient (a .n) (valueAt t))) (a .work .now) (ideal-sums e .good) (v .0 .0) (summarise-refuses 0 f _ _ (z .summarise .result) _ _ (z .summarise .ensures) (v .0 .0) (v .1) .refuses)
+    second-refuses comparedSays (tableChecks (a .n) t) (fileChecks 0 f ++ workChecks (wiresOf f) (a .n + 1) (length (a .work .now))) (verdictValues (verdict (wiresOf f) (circuit (gatesOf f)) (ideal (a .n) (valueAt t)))) (differences (wiresOf f) (coefficient (wiresOf f) (gatesOf f)) (idealCoefficient (a .n) (valueAt t))) (a .work .now) (ideal-sums e .good) (Refused (v .0 .0)) (v .0 .0) refl (then-refused (fileChecks 0 f) (workChecks (wiresOf f) (a .n + 1) (length (a .work .now))) (v .0 .0) (summarise-refuses 0 f _ _ (z .summarise .result) _ _ (z .summarise .ensures) (v .0 .0) (v .1) .refuses))
 
 same-length : tie.Need-same-length
 same-length c = search needs

@@ -4,8 +4,9 @@ use native.Mathlib.Omega.{arith}
 use lib.Pow.{pow-mono}
 use borrow.Author.Needs.{needs}
 use Rattle.numbers.proofs.Powers.{small-power}
+use Rattle.numbers.proofs.Turns.{subtracted}
 use Rattle.verdict.specs.Working.{entry, summary}
-use Rattle.verdict.proofs.Judging.{subtracted, judged-different, judged-same}
+use Rattle.verdict.proofs.Judging.{judged-different, judged-same}
 use Rattle.verdict.proofs.scan.scan.Statement.{statement}
 use Rattle.verdict.proofs.scan.scan.Tie as tie
 
@@ -46,10 +47,10 @@ cast-t13 c =
     omega (arith, below (found c), pow-mono {i = s .args .wires} {j = 10} (s .pre .0 .few))
 
 end-at-requires : tie.Need-end-at-requires
-end-at-requires c κs = let s = start (found c .before) in (s .pre .0 .few, s .pre .0 .wires)
+end-at-requires c κs = search needs
 
 end-at-requires-2 : tie.Need-end-at-requires-2
-end-at-requires-2 c κs = let s = start (found (c .before) .before) in (s .pre .1 .few, s .pre .1 .wires)
+end-at-requires-2 c κs = search needs
 
 wrapping-sub-u16-requires : tie.Need-wrapping-sub-u16-requires
 wrapping-sub-u16-requires c κs = search needs

@@ -3,9 +3,9 @@ use mathlib.Core.Path.{_≡_, refl, ap, _∙_}
 use mathlib.Core.List.{List}
 use lib.ListN.{length, length-set}
 use Rattle.numbers.specs.Turn.{difference}
+use Rattle.numbers.proofs.Turns.{subtracted}
 use Rattle.numbers.proofs.Lists.{filled, fill-again}
 use Rattle.verdict.specs.Working.{entry}
-use Rattle.verdict.proofs.Judging.{subtracted}
 use native.Mathlib.Omega.{arith}
 use borrow.Author.Needs.{needs}
 use Rattle.verdict.proofs.summaries.subtract.Statement.{statement}
