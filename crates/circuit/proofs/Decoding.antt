@@ -3,19 +3,21 @@ use Prim.Native.Nat.{ℕ, zero, suc, _+_, _*_, _/_, _%_, _<_, _≤_}
 use native.Mathlib.Nat.{add-zero, add-suc, suc-add}
 use native.Mathlib.Decide.{decLt, ℕ-discrete}
 use native.Mathlib.Omega.{arith}
+use mathlib.Core.Bool.{true, false, cond}
 use mathlib.Core.Path.{_≡_, refl, sym, ap, ap₂, subst, subst₂, _∙_}
 use mathlib.Core.Logic.{_⊎_, inl, inr}
 use mathlib.Core.List.{List, [], _∷_, _++_, append-nil, append-assoc}
 use lib.ListN.{length, getD, drop, length-drop}
 use lib.Seq.{drop-drop, getD-drop}
-use borrow.Author.Tests.{lt-ltb, le-ltb, eq-eqb, ne-eqb}
+use borrow.Author.Tests.{lt-ltb, le-ltb, le-leb, lt-leb, eq-eqb, ne-eqb}
 use Rattle.numbers.specs.Sums.{list}
 use Rattle.circuit.specs.declared.Gate.{Gate}
 use Rattle.circuit.specs.declared.Gate.the-variants.{Cnot, Phase}
 use Rattle.circuit.specs.declared.Placed.{Placed}
 use Rattle.circuit.specs.declared.Decoded.the-variants.{Good, Bad}
 use Rattle.circuit.specs.Bytes.{Bytes}
-use Rattle.circuit.specs.Gates.{good, decoded, decodedAt, gateSaid, saidFrom, firstBad, gatesFrom, gateBytes, bytesOf, Sound, AllSound}
+use Rattle.circuit.specs.Gates.{good, decoded, decodedAt, firstBad, gatesFrom, gateBytes, bytesOf, Sound, AllSound}
+use Rattle.circuit.specs.Working.{bad, gateSaid}
 
 pub bytes-drop : (n : ℕ) (bs : List ℕ) → Bytes bs → Bytes (drop n bs)
 bytes-drop n bs h i = rw (getD-drop n bs i 0) (h (n + i))
@@ -65,9 +67,9 @@ phase-four w p a b c hb hc = by (decLt a w)
         )
 
 -- four bytes are bad, or those of one good gate
-pub four : (w p k a b c : ℕ) → b < 256 → c < 256 → Four w p k a b c
+pub four-bytes : (w p k a b c : ℕ) → b < 256 → c < 256 → Four w p k a b c
 unfolding decoded
-four w p k a b c hb hc = by (ℕ-discrete k 1) (ℕ-discrete k 2)
+four-bytes w p k a b c hb hc = by (ℕ-discrete k 1) (ℕ-discrete k 2)
   where
     by : Dec (k ≡ 1) → Dec (k ≡ 2) → Four w p k a b c
     by (yes e) d = rw e (cnot-four w p a b c)
@@ -77,7 +79,7 @@ four w p k a b c hb hc = by (ℕ-discrete k 1) (ℕ-discrete k 2)
 -- the writer undoes the decoder
 pub bytes-decoded : (w p k a b c : ℕ) (q : Placed) → b < 256 → c < 256 → decoded w p k a b c ≡ Good q
     → (gateBytes (q .gate) ≡ k ∷ a ∷ b ∷ c ∷ []) × (q .position ≡ p) × Sound w (q .gate)
-bytes-decoded w p k a b c q hb hc e = by (four w p k a b c hb hc)
+bytes-decoded w p k a b c q hb hc e = by (four-bytes w p k a b c hb hc)
   where
     by : Four w p k a b c → (gateBytes (q .gate) ≡ k ∷ a ∷ b ∷ c ∷ []) × (q .position ≡ p) × Sound w (q .gate)
     by (inl d) = let z : _≡_ {A = ℕ} 0 1 = cc in absurd (omega arith)
@@ -97,6 +99,41 @@ bytes-said (Phase i n) k a b c e =
     let q : n ≡ b * 256 + c = omega arith in
     let z : i ≡ a = cc e in
     rw (ne-eqb k 1 (λ r. omega arith)) (ap₂ Phase z q)
+
+-- the decoder asks whether the bytes are bad, and takes the gate that they say
+cnot-by : (w p a b c : ℕ) → decoded w p 1 a b c ≡ cond (bad w 1 a b c) Bad (good p (gateSaid 1 a b c))
+unfolding decoded
+cnot-by w p a b c = by (decLt a w) (decLt b w) (ℕ-discrete a b) (ℕ-discrete c 0)
+  where
+    by : Dec (a < w) → Dec (b < w) → Dec (a ≡ b) → Dec (c ≡ 0) → decoded w p 1 a b c ≡ cond (bad w 1 a b c) Bad (good p (gateSaid 1 a b c))
+    by (no h) i j k = rw (le-ltb a w (omega arith), le-leb w a (omega arith))
+    by (yes h) (no i) j k = rw (lt-ltb a w h, lt-leb w a h, le-ltb b w (omega arith), le-leb w b (omega arith))
+    by (yes h) (yes i) (yes j) k = rw (lt-ltb a w h, lt-leb w a h, lt-ltb b w i, lt-leb w b i, eq-eqb a b j)
+    by (yes h) (yes i) (no j) (no k) = rw (lt-ltb a w h, lt-leb w a h, lt-ltb b w i, lt-leb w b i, ne-eqb a b j, ne-eqb c 0 k)
+    by (yes h) (yes i) (no j) (yes k) = rw (lt-ltb a w h, lt-leb w a h, lt-ltb b w i, lt-leb w b i, ne-eqb a b j, eq-eqb c 0 k)
+
+phase-by : (w p a b c : ℕ) → decoded w p 2 a b c ≡ cond (bad w 2 a b c) Bad (good p (gateSaid 2 a b c))
+unfolding decoded
+phase-by w p a b c = by (decLt a w)
+  where
+    by : Dec (a < w) → decoded w p 2 a b c ≡ cond (bad w 2 a b c) Bad (good p (gateSaid 2 a b c))
+    by (no h) = rw (le-ltb a w (omega arith), le-leb w a (omega arith))
+    by (yes h) = rw (lt-ltb a w h, lt-leb w a h)
+
+pub decoded-by : (w p k a b c : ℕ) → decoded w p k a b c ≡ cond (bad w k a b c) Bad (good p (gateSaid k a b c))
+unfolding decoded
+decoded-by w p k a b c = by (ℕ-discrete k 1) (ℕ-discrete k 2)
+  where
+    by : Dec (k ≡ 1) → Dec (k ≡ 2) → decoded w p k a b c ≡ cond (bad w k a b c) Bad (good p (gateSaid k a b c))
+    by (yes e) d = rw e (cnot-by w p a b c)
+    by (no e) (yes d) = rw d (phase-by w p a b c)
+    by (no e) (no d) = rw (ne-eqb k 1 e, ne-eqb k 2 d)
+
+pub is-bad : (w p k a b c : ℕ) → bad w k a b c ≡ true → decoded w p k a b c ≡ Bad
+is-bad w p k a b c e = decoded-by w p k a b c ∙ rw e
+
+pub is-good : (w p k a b c : ℕ) → bad w k a b c ≡ false → decoded w p k a b c ≡ good p (gateSaid k a b c)
+is-good w p k a b c e = decoded-by w p k a b c ∙ rw e
 
 -- the decoder undoes the writer
 pub decoded-bytes : (w p : ℕ) (g : Gate) (rest : List ℕ) → Sound w g → decodedAt w p (gateBytes g ++ rest) ≡ good p g
@@ -119,7 +156,7 @@ gates-good w n p bs g e = rw e
 -- where none of n gates is bad the first is good, and none of the others is bad
 pub next-gate : (w n p : ℕ) (bs : List ℕ) → Bytes bs → p + suc n ≤ firstBad w (suc n) p bs
     → (g : Gate) × Decodes w p bs g × (suc p + n ≤ firstBad w n (suc p) (drop 4 bs)) × (gatesFrom w (suc n) p bs ≡ g ∷ gatesFrom w n (suc p) (drop 4 bs))
-next-gate w n p bs h k = by (four w p (getD bs 0 0) (getD bs 1 0) (getD bs 2 0) (getD bs 3 0) (h 2) (h 3))
+next-gate w n p bs h k = by (four-bytes w p (getD bs 0 0) (getD bs 1 0) (getD bs 2 0) (getD bs 3 0) (h 2) (h 3))
   where
     by : Four w p (getD bs 0 0) (getD bs 1 0) (getD bs 2 0) (getD bs 3 0)
         → (g : Gate) × Decodes w p bs g × (suc p + n ≤ firstBad w n (suc p) (drop 4 bs)) × (gatesFrom w (suc n) p bs ≡ g ∷ gatesFrom w n (suc p) (drop 4 bs))
@@ -128,23 +165,6 @@ next-gate w n p bs h k = by (four w p (getD bs 0 0) (getD bs 1 0) (getD bs 2 0) 
         let g = d .0 in
         let q = first-good w n p bs (record { position = p; gate = g }) (d .1 .answer) in
         (g, record { answer = d .1 .answer; sound = d .1 .sound; bytes = d .1 .bytes }, omega arith, gates-good w n p bs g (d .1 .answer))
-
--- the gates of n good fours are what their bytes say
-pub said-gates : (w n p : ℕ) (bs : List ℕ) → Bytes bs → p + n ≤ firstBad w n p bs → saidFrom n bs ≡ gatesFrom w n p bs
-unfolding saidFrom gatesFrom
-said-gates w zero p bs h k = refl
-said-gates w (suc n) p bs h k =
-    let d = next-gate w n p bs h k in
-    ap₂ (λ (g : Gate) (gs : List Gate). g ∷ gs) (sym (bytes-said (d .0) (getD bs 0 0) (getD bs 1 0) (getD bs 2 0) (getD bs 3 0) (d .1 .bytes))) (said-gates w n (suc p) (drop 4 bs) (bytes-drop 4 bs h) (d .2)) ∙ sym (d .3)
-
--- the recursion, where its definition is shut
-pub said-none : (bs : List ℕ) → saidFrom 0 bs ≡ []
-unfolding saidFrom
-said-none bs = refl
-
-pub said-cons : (n : ℕ) (bs : List ℕ) → saidFrom (suc n) bs ≡ gateSaid (getD bs 0 0) (getD bs 1 0) (getD bs 2 0) (getD bs 3 0) ∷ saidFrom n (drop 4 bs)
-unfolding saidFrom
-said-cons n bs = refl
 
 -- the gates of n good fours: as many, each sound, and their bytes are those that were read
 pub record Listed (w n p : ℕ) (bs : List ℕ) : Type 0 where

@@ -1,10 +1,12 @@
 -- A file and its gate list are each other's; what callers of the reader know when it answers and when it refuses.
-use Prim.Native.Nat.{ℕ, suc, _+_, _-_, _*_, _/_, _%_, _<_, _≤_}
+use Prim.Native.Nat.{ℕ, suc, _+_, _-_, _*_, _/_, _%_, _^_, _<_, _≤_}
 use native.Mathlib.Nat.{zero-add, add-zero}
 use native.Mathlib.Numerals.{add-one}
 use native.Mathlib.Omega.{arith}
+use mathlib.Core.Bool.{true, false}
 use mathlib.Core.Path.{_≡_, refl, sym, ap, ap₂, subst, subst₂, _∙_}
 use mathlib.Core.List.{List, [], _∷_}
+use lib.Pow.{pow-mono}
 use lib.ListN.{length, getD, drop, length-drop, drop-of-length-le}
 use lib.Seq.{drop-drop, getD-drop}
 use borrow.Author.Tests.{le-leb, lt-leb}
@@ -13,40 +15,56 @@ use Rattle.refusal.specs.Checks.{passed, refused, outcome}
 use Rattle.refusal.proofs.Passed.{passed-fail, fail-passed}
 use Rattle.refusal.proofs.Contracts.{says-refused, says-values}
 use Rattle.circuit.specs.declared.Gate.{Gate}
-use Rattle.circuit.specs.declared.Placed.{Placed}
-use Rattle.circuit.specs.declared.Decoded.the-variants.{Good, Bad}
+use Rattle.circuit.specs.declared.Gate.the-variants.{Phase}
+use Rattle.circuit.specs.declared.Decoded.{Decoded}
+use Rattle.circuit.specs.declared.Decoded.the-variants.{Bad}
 use Rattle.circuit.specs.declared.Reading.{Reading}
 use Rattle.circuit.specs.declared.Reading.the-variants.{Circuit, Refused}
-use Rattle.circuit.specs.Gates.{good, decoded, decodedAt, gateSaid, saidFrom, gateBytes, bytesOf, gatesFrom, firstBad, Sound, AllSound}
+use Rattle.circuit.specs.Gates.{good, decoded, decodedAt, gateBytes, bytesOf, gatesFrom, firstBad, Sound, AllSound}
+use Rattle.circuit.specs.Working.{bad, gateSaid, fourAt, saidAt}
 use Rattle.circuit.specs.File.{markOf, versionOf, wiresOf, countOf, gatesOf, badOf, gateAt, fileChecks, fileOf, Reads}
 use Rattle.circuit.specs.Bytes.{Bytes}
-use Rattle.circuit.proofs.Decoding.{first-bad, first-good, bytes-drop, Listed, listed, gate-at, bytes-said, said-gates, front, first-written, gates-written, length-bytes}
+use Rattle.circuit.proofs.Decoding.{first-bad, first-good, bytes-drop, Listed, listed, gate-at, bytes-said, is-bad, is-good, front, first-written, gates-written, length-bytes}
 
--- the gate at i where its bytes lie in the file, byte by byte, and where they do not
-pub gate-inside : (f : List ℕ) (i : ℕ) → 12 + 4 * i ≤ length f
-    → decoded (getD f 5 0) i (getD f (8 + 4 * i) 0) (getD f (8 + 4 * i + 1) 0) (getD f (8 + 4 * i + 2) 0) (getD f (8 + 4 * i + 3) 0) ≡ gateAt f i
-gate-inside f i h =
-    rw (le-leb (12 + 4 * i) (length f) h, getD-drop (8 + 4 * i) f 0 0, getD-drop (8 + 4 * i) f 1 0, getD-drop (8 + 4 * i) f 2 0, getD-drop (8 + 4 * i) f 3 0, add-zero (8 + 4 * i))
+-- four bytes at i: what the decoder makes of them, and what they say, where they lie in the file and where they do not
+module _ (f : List ℕ) (i : ℕ) where
+  dropped : decodedAt (wiresOf f) i (drop (8 + 4 * i) f)
+      ≡ decoded (wiresOf f) i (getD f (8 + 4 * i) 0) (getD f (8 + 4 * i + 1) 0) (getD f (8 + 4 * i + 2) 0) (getD f (8 + 4 * i + 3) 0)
+  dropped = let at = 8 + 4 * i in rw (getD-drop at f 0 0, getD-drop at f 1 0, getD-drop at f 2 0, getD-drop at f 3 0, add-zero at)
 
-pub gate-outside : (f : List ℕ) (i : ℕ) → length f < 12 + 4 * i → gateAt f i ≡ Bad
-gate-outside f i h = rw (lt-leb (12 + 4 * i) (length f) h)
+  module _ (b : List ℕ) (e : b ≡ fourAt f i) (h : 12 + 4 * i ≤ length f) where
+    pub four-decoded : (r : Decoded) → r ≡ decoded (getD f 5 0) i (getD b 0 0) (getD b 1 0) (getD b 2 0) (getD b 3 0) → r ≡ gateAt f i
+    four-decoded r p = p ∙ rw (e, le-leb (12 + 4 * i) (length f) h) (sym dropped)
+
+    pub four-said : (g : Gate) → g ≡ gateSaid (getD b 0 0) (getD b 1 0) (getD b 2 0) (getD b 3 0) → g ≡ saidAt f i
+    four-said g p = p ∙ rw (e, le-leb (12 + 4 * i) (length f) h)
+
+  pub gate-outside : length f < 12 + 4 * i → gateAt f i ≡ Bad
+  gate-outside h = rw (lt-leb (12 + 4 * i) (length f) h)
+
+  pub said-outside : length f < 12 + 4 * i → saidAt f i ≡ Phase 0 0
+  said-outside h = rw (lt-leb (12 + 4 * i) (length f) h)
 
 -- the search for the first bad gate, from position i on
-module _ (f : List ℕ) (n i : ℕ) (h : 8 + 4 * n ≤ length f) (k : i < n) where
-  inside : gateAt f i ≡ decodedAt (wiresOf f) i (drop (8 + 4 * i) f)
-  inside = let l : 12 + 4 * i ≤ length f = omega arith in rw (le-leb (12 + 4 * i) (length f) l)
+module _ (f : List ℕ) (n i : ℕ) (k : i < n) (b : List ℕ) (e : b ≡ fourAt f i) where
+  four-here : decodedAt (wiresOf f) i (drop (8 + 4 * i) f) ≡ decoded (wiresOf f) i (getD b 0 0) (getD b 1 0) (getD b 2 0) (getD b 3 0)
+  four-here = rw e (dropped f i)
 
   more : n - i ≡ suc (n - suc i)
   more = omega arith
 
-  pub search-stops : gateAt f i ≡ Bad → firstBad (wiresOf f) (n - i) i (drop (8 + 4 * i) f) ≡ i
-  search-stops e = ap (λ (m : ℕ). firstBad (wiresOf f) m i (drop (8 + 4 * i) f)) more ∙ first-bad (wiresOf f) (n - suc i) i (drop (8 + 4 * i) f) (sym inside ∙ e)
+  pub search-stops : bad (wiresOf f) (getD b 0 0) (getD b 1 0) (getD b 2 0) (getD b 3 0) ≡ true → firstBad (wiresOf f) (n - i) i (drop (8 + 4 * i) f) ≡ i
+  search-stops x =
+      ap (λ (m : ℕ). firstBad (wiresOf f) m i (drop (8 + 4 * i) f)) more
+      ∙ first-bad (wiresOf f) (n - suc i) i (drop (8 + 4 * i) f) (four-here ∙ is-bad (wiresOf f) i (getD b 0 0) (getD b 1 0) (getD b 2 0) (getD b 3 0) x)
 
-  pub search-goes-on : (q : Placed) → gateAt f i ≡ Good q
+  pub search-goes-on : bad (wiresOf f) (getD b 0 0) (getD b 1 0) (getD b 2 0) (getD b 3 0) ≡ false
       → firstBad (wiresOf f) (n - i) i (drop (8 + 4 * i) f) ≡ firstBad (wiresOf f) (n - (i + 1)) (i + 1) (drop (8 + 4 * (i + 1)) f)
-  search-goes-on q e =
+  search-goes-on x =
       let at : 8 + 4 * i + 4 ≡ 8 + 4 * suc i = omega arith in
-      ap (λ (m : ℕ). firstBad (wiresOf f) m i (drop (8 + 4 * i) f)) more ∙ first-good (wiresOf f) (n - suc i) i (drop (8 + 4 * i) f) q (sym inside ∙ e)
+      let g = gateSaid (getD b 0 0) (getD b 1 0) (getD b 2 0) (getD b 3 0) in
+      ap (λ (m : ℕ). firstBad (wiresOf f) m i (drop (8 + 4 * i) f)) more
+      ∙ first-good (wiresOf f) (n - suc i) i (drop (8 + 4 * i) f) (record { position = i; gate = g }) (four-here ∙ is-good (wiresOf f) i (getD b 0 0) (getD b 1 0) (getD b 2 0) (getD b 3 0) x)
       ∙ rw (drop-drop 4 (8 + 4 * i) f, at, add-one i)
 
 pub search-done : (f : List ℕ) (n i : ℕ) → i ≡ n → i ≡ firstBad (wiresOf f) (n - i) i (drop (8 + 4 * i) f)
@@ -82,6 +100,14 @@ good-file s f e =
 pub file-passes : (s : ℕ) (f : List ℕ) → GoodFile f → outcome (fileChecks s f) ≡ passed
 file-passes s f h =
     fail-passed (fileChecks s f) (h .long, (h .mark, (h .version, (omega (arith, h .some), (h .few, (h .count, (h .whole, (h .gates, tt))))))))
+
+-- passing at one side is passing at any
+pub passes-anywhere : (s t : ℕ) (f : List ℕ) → outcome (fileChecks s f) ≡ passed → outcome (fileChecks t f) ≡ passed
+passes-anywhere s t f e = file-passes t f (good-file s f e)
+
+-- a good file's states, sets and masks are fewer than 1,024
+pub few-states : (s : ℕ) (f : List ℕ) → outcome (fileChecks s f) ≡ passed → 2 ^ wiresOf f ≤ 1024
+few-states s f e = pow-mono {i = wiresOf f} {j = 10} (good-file s f e .few)
 
 module _ (w : ℕ) (gs : List Gate) where
   pub wires-written : wiresOf (fileOf w gs) ≡ w
@@ -123,10 +149,6 @@ module _ (w : ℕ) (gs : List Gate) where
         gates = omega arith;
       })
 
--- what the bytes at i say
-abbrev pub saidAt : List ℕ → ℕ → Gate
-saidAt f i = gateSaid (getD f (8 + 4 * i) 0) (getD f (8 + 4 * i + 1) 0) (getD f (8 + 4 * i + 2) 0) (getD f (8 + 4 * i + 3) 0)
-
 module _ (f : List ℕ) (bytes : Bytes f) (h : GoodFile f) where
   file-listed : Listed (wiresOf f) (countOf f) 0 (drop 8 f)
   file-listed = listed (wiresOf f) (countOf f) 0 (drop 8 f) (bytes-drop 8 f bytes) (length-drop 8 f ∙ omega (arith, h .whole)) (omega (arith, h .gates))
@@ -162,28 +184,17 @@ module _ (f : List ℕ) (bytes : Bytes f) (h : GoodFile f) where
       (subst₂ (λ (p : ℕ) (bs : List ℕ). decodedAt (wiresOf f) p bs ≡ good p (d .0)) (zero-add i) (drop-drop (4 * i) 8 f) (d .1 .answer)) in
       (d .0, e, d .2, d .1 .sound)
 
-  -- for loops over the gates: the list's gate at i is sound, and its bytes are those at i
-  pub gate-read : (i : ℕ) → i < countOf f → (g : Gate) × (drop i (gatesOf f) ≡ g ∷ drop (suc i) (gatesOf f)) × Sound (wiresOf f) g
-      × (gateBytes g ≡ getD f (8 + 4 * i) 0 ∷ getD f (8 + 4 * i + 1) 0 ∷ getD f (8 + 4 * i + 2) 0 ∷ getD f (8 + 4 * i + 3) 0 ∷ [])
-  gate-read i k =
-      let at = 8 + 4 * i in
-      let d = gate-at (wiresOf f) (countOf f) 0 (drop 8 f) i (bytes-drop 8 f bytes) (omega (arith, h .gates)) k in
-      let b = subst (λ (bs : List ℕ). gateBytes (d .0) ≡ getD bs 0 0 ∷ getD bs 1 0 ∷ getD bs 2 0 ∷ getD bs 3 0 ∷ []) (drop-drop (4 * i) 8 f) (d .1 .bytes) in
-      (d .0, d .2, d .1 .sound, rw (getD-drop at f 0 0, getD-drop at f 1 0, getD-drop at f 2 0, getD-drop at f 3 0, add-zero at) at b)
-
-  -- and it is the gate that they say
+  -- the gate that the bytes at i say is the list's, and it is sound
   pub gate-said : (i : ℕ) → i < countOf f → (drop i (gatesOf f) ≡ saidAt f i ∷ drop (suc i) (gatesOf f)) × Sound (wiresOf f) (saidAt f i)
   gate-said i k =
       let at = 8 + 4 * i in
-      let d = gate-read i k in
-      let e = bytes-said (d .0) (getD f at 0) (getD f (at + 1) 0) (getD f (at + 2) 0) (getD f (at + 3) 0) (d .3) in
-      subst (λ (g : Gate). (drop i (gatesOf f) ≡ g ∷ drop (suc i) (gatesOf f)) × Sound (wiresOf f) g) e (d .1, d .2)
-
-  -- all of a good file's fours say its list
-  pub file-said : saidFrom ((length f - 8) / 4) (drop 8 f) ≡ gatesOf f
-  file-said =
-      let n : (length f - 8) / 4 ≡ countOf f = omega (arith, h .whole) in
-      ap (λ (m : ℕ). saidFrom m (drop 8 f)) n ∙ said-gates (wiresOf f) (countOf f) 0 (drop 8 f) (bytes-drop 8 f bytes) (omega (arith, h .gates))
+      let d = gate-at (wiresOf f) (countOf f) 0 (drop 8 f) i (bytes-drop 8 f bytes) (omega (arith, h .gates)) k in
+      let b = subst (λ (bs : List ℕ). gateBytes (d .0) ≡ getD bs 0 0 ∷ getD bs 1 0 ∷ getD bs 2 0 ∷ getD bs 3 0 ∷ []) (drop-drop (4 * i) 8 f) (d .1 .bytes) in
+      let e = bytes-said (d .0) (getD f at 0) (getD f (at + 1) 0) (getD f (at + 2) 0) (getD f (at + 3) 0)
+      (rw (getD-drop at f 0 0, getD-drop at f 1 0, getD-drop at f 2 0, getD-drop at f 3 0, add-zero at) at b) in
+      let l : 12 + 4 * i ≤ length f = omega (arith, h .whole) in
+      let s = four-said f i (fourAt f i) refl l (d .0) e in
+      subst (λ (g : Gate). (drop i (gatesOf f) ≡ g ∷ drop (suc i) (gatesOf f)) × Sound (wiresOf f) g) s (d .2, d .1 .sound)
 
   -- at the count the list is at its end
   pub gates-end : (i : ℕ) → countOf f ≤ i → drop i (gatesOf f) ≡ []

@@ -27,18 +27,6 @@ phaseOf w p i high low = cond (ltb i w) (good p (Phase i (high * 256 + low))) Ba
 unfoldable pub decoded : ℕ → ℕ → ℕ → ℕ → ℕ → ℕ → Decoded
 decoded w p kind a b c = cond (eqb kind 1) (cnotOf w p a b c) (cond (eqb kind 2) (phaseOf w p a b c) Bad)
 
--- the gate that four bytes say, where they are good
-abbrev pub gateSaid : ℕ → ℕ → ℕ → ℕ → Gate
-gateSaid kind a b c = cond (eqb kind 1) (Cnot a b) (Phase a (b * 256 + c))
-
--- four bytes as one number, low byte first, for checks of a gate at once
-abbrev pub packed : ℕ → ℕ → ℕ → ℕ → ℕ
-packed a b c d = a + 256 * b + 65536 * c + 16777216 * d
-
--- what makes four packed bytes a good gate on w wires: a phase gate's wire, or a CNOT's wires, its last byte being 0
-abbrev pub GoodPacked : ℕ → ℕ → Type 0
-GoodPacked w x = (x / 256 % 256 < w) × ((x % 256 ≡ 2) ⊎ ((x % 256 ≡ 1) × (x / 65536 < w) × (x / 256 % 256 ≡ x / 65536 → ⊥)))
-
 -- the next four bytes as the gate at position p
 abbrev pub decodedAt : ℕ → ℕ → List ℕ → Decoded
 decodedAt w p bs = decoded w p (getD bs 0 0) (getD bs 1 0) (getD bs 2 0) (getD bs 3 0)
@@ -60,11 +48,6 @@ consIf Bad gs = gs
 unfoldable pub gatesFrom : ℕ → ℕ → ℕ → List ℕ → List Gate
 gatesFrom w zero p bs = []
 gatesFrom w (suc n) p bs = consIf (decodedAt w p bs) (gatesFrom w n (suc p) (drop 4 bs))
-
--- the gates that n fours of bytes say
-unfoldable pub saidFrom : ℕ → List ℕ → List Gate
-saidFrom zero bs = []
-saidFrom (suc n) bs = gateSaid (getD bs 0 0) (getD bs 1 0) (getD bs 2 0) (getD bs 3 0) ∷ saidFrom n (drop 4 bs)
 
 -- "4 bytes a gate; high byte first"
 abbrev pub gateBytes : Gate → List ℕ

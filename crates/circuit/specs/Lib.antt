@@ -1,3 +1,4 @@
 pub mod Bytes
 pub mod Gates
 pub mod File
+pub mod Working

@@ -2,14 +2,13 @@
 use refusal::Refusal;
 
 mod decoder;
-mod good;
+mod gates;
 mod reader;
 mod writer;
 
 pub use decoder::decode;
-pub use decoder::gate_of;
-pub use good::pack;
-pub use reader::gate_at;
+pub use gates::gate_at;
+pub use gates::good_gate;
 pub use reader::read;
 pub use writer::gate_bytes;
 pub use writer::put_gate;

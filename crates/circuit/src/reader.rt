@@ -1,61 +1,28 @@
-// A file's gates and its checks.
-use crate::Decoded;
+// A file's checks.
 use crate::Reading;
-use crate::decoder::decode;
-use crate::decoder::word;
-use crate::good::count_bad;
+use crate::decoder::is_bad;
+use crate::decoder::sixteen_bits;
+use crate::gates::four_at;
 use refusal::Refusal;
 ghost use mathlib.Core.Path.{_≡_};
 ghost use Prim.Native.Nat.{_+_, _*_, _≤_};
 ghost use lib.ListN.{length, drop};
 ghost use Rattle.circuit.specs.declared.Reading.the-variants.{Refused};
 ghost use Rattle.circuit.specs.Gates.{firstBad};
-ghost use Rattle.circuit.specs.File.{wiresOf, gateAt, Reads};
+ghost use Rattle.circuit.specs.File.{wiresOf, Reads};
 
-// The gate at position `i`; bad where its bytes do not all lie in the file.
-pub fn gate_at(file: &[u8], i: usize) -> Decoded
-    ensures { λ r. ⌜ r ≡ gateAt (now (file .entry)) i ⌝ }
-{
-    if file.len() < 12 {
-        return Decoded::Bad;
-    }
-    if (file.len() - 12) / 4 < i {
-        return Decoded::Bad;
-    }
-    let at = 8 + 4 * i;
-    decode(
-        file[5],
-        i,
-        file[at],
-        file[at + 1],
-        file[at + 2],
-        file[at + 3],
-    )
-}
-
-// The position of the first bad gate, or `gates` where none is bad. A good file is told in one pass without exit.
+// The position of the first bad gate, or `gates` where none is bad.
 fn first_bad(file: &[u8], gates: usize) -> usize
-    requires { ⌜ (8 + 4 * gates ≤ length (now file)) × (gates ≤ 2048) ⌝ }
-    ensures { λ r. ⌜ r ≡ firstBad (wiresOf (now (file .entry))) gates 0 (drop 8 (now (file .entry))) ⌝ }
-{
-    if count_bad(file, file[5], gates) == 0 {
-        return gates;
-    }
-    find_bad(file, gates)
-}
-
-// The same by going from gate to gate.
-fn find_bad(file: &[u8], gates: usize) -> usize
     requires { ⌜ 8 + 4 * gates ≤ length (now file) ⌝ }
     ensures { λ r. ⌜ r ≡ firstBad (wiresOf (now (file .entry))) gates 0 (drop 8 (now (file .entry))) ⌝ }
 {
     let mut i: usize = 0;
     while i < gates {
-        let next = i + 1;
-        let Decoded::Good(_) = gate_at(file, i) else {
+        let four = four_at(file, i);
+        if is_bad(file[5], four[0], four[1], four[2], four[3]) {
             return i;
-        };
-        i = next;
+        }
+        i += 1;
     }
     i
 }
@@ -87,7 +54,7 @@ pub fn read(file: &[u8], side: u8) -> Reading
     if mark(file[0], file[1], file[2]) != 0x504847 {
         return refused(refusal::MARK, side, 0);
     }
-    if word(file[3], file[4]) != 1 {
+    if sixteen_bits(file[3], file[4]) != 1 {
         return refused(refusal::VERSION, side, 0);
     }
     let wires = file[5];
@@ -97,7 +64,7 @@ pub fn read(file: &[u8], side: u8) -> Reading
     if wires > 10 {
         return refused(refusal::WIRES, side, 0);
     }
-    let gates = word(file[6], file[7]) as usize;
+    let gates = sixteen_bits(file[6], file[7]) as usize;
     if gates > 2048 {
         return refused(refusal::COUNT, side, 0);
     }

@@ -1,26 +1,24 @@
-use borrow.Author.Tests.{eq-eqb, ne-eqb}
-use Rattle.circuit.specs.Gates.{decoded}
+use mathlib.Core.Path.{sym, ap, _∙_}
 use borrow.Author.Needs.{needs}
+use Rattle.circuit.specs.declared.Gate.{Gate}
+use Rattle.circuit.specs.Gates.{good}
+use Rattle.circuit.proofs.Decoding.{is-bad, is-good}
 use Rattle.circuit.proofs.decoder.decode.Statement.{statement}
 use Rattle.circuit.proofs.decoder.decode.Tie as tie
 
-cnot-requires : tie.Need-cnot-requires
-cnot-requires c κs = search needs
+is-bad-requires : tie.Need-is-bad-requires
+is-bad-requires c κs = search needs
 
 returns : tie.Need-returns
-unfolding decoded
-returns c = simp (eq-eqb _ _ (c .before .if1 .taken)) (c .cnot .ensures)
+returns c = let a = c .before .before .args in sym (is-bad (a .w) (a .position) (a .kind) (a .a) (a .b) (a .c) (sym (c .before .is-bad .ensures) ∙ c .if1 .taken))
 
-phase-requires : tie.Need-phase-requires
-phase-requires c κs = search needs
+gate-of-requires : tie.Need-gate-of-requires
+gate-of-requires c κs = search needs
 
 returns-2 : tie.Need-returns-2
-unfolding decoded
-returns-2 c = simp (ne-eqb _ _ (c .before .before .if1 .left), eq-eqb _ _ (c .before .if2 .taken)) (c .phase .ensures)
-
-returns-3 : tie.Need-returns-3
-unfolding decoded
-returns-3 c = simp (ne-eqb _ _ (c .before .if1 .left), ne-eqb _ _ (c .if2 .left))
+returns-2 c =
+    let a = c .before .before .before .args in
+    ap (λ (g : Gate). good (a .position) g) (c .gate-of .ensures) ∙ sym (is-good (a .w) (a .position) (a .kind) (a .a) (a .b) (a .c) (sym (c .before .before .is-bad .ensures) ∙ c .before .if1 .left))
 
 pub decode-spec : {M : Type 1} → statement M
-decode-spec = tie.close (tie.spec cnot-requires returns phase-requires returns-2 returns-3)
+decode-spec = tie.close (tie.spec is-bad-requires returns gate-of-requires returns-2)

@@ -12,27 +12,60 @@ use borrow.Author.Needs.{needs}
 use Rattle.circuit.proofs.reader.read.Statement.{statement}
 use Rattle.circuit.proofs.reader.read.Tie as tie
 
+-- the place behind each check, from the next one
+abbrev passed1 : tie.Else2 → tie.Else1
+passed1 c = c .before .before .before .before .before
+
+abbrev passed2 : tie.Else3 → tie.Else2
+passed2 c = c .before .before .before .before
+
+abbrev passed3 : tie.Else4 → tie.Else3
+passed3 c = c .before .before
+
+abbrev passed4 : tie.Else5 → tie.Else4
+passed4 c = c .before
+
+abbrev passed5 : tie.Else6 → tie.Else5
+passed5 c = c .before .before .before .before
+
+abbrev passed6 : tie.Else7 → tie.Else6
+passed6 c = c .before
+
+-- and from its refusal
+abbrev failed2 : tie.After-refused2 → tie.Else1
+failed2 c = c .before .before .before .before .before .before
+
+abbrev failed3 : tie.After-refused3 → tie.Else2
+failed3 c = c .before .before .before .before .before
+
+abbrev failed6 : tie.After-refused6 → tie.Else5
+failed6 c = c .before .before .before .before .before
+
+-- where the gate count was read
+abbrev counted : tie.Else7 → tie.After-sixteen-bits2
+counted c = c .before .before
+
 -- the call, as it is known behind each check
 abbrev from1 : tie.Else1 → tie.Start
 from1 c = c .before .before
 
 abbrev from2 : tie.Else2 → tie.Start
-from2 c = from1 (c .before .before .before .before .before)
+from2 c = from1 (passed1 c)
 
 abbrev from3 : tie.Else3 → tie.Start
-from3 c = from2 (c .before .before .before .before)
+from3 c = from2 (passed2 c)
 
 abbrev from4 : tie.Else4 → tie.Start
-from4 c = from3 (c .before .before)
+from4 c = from3 (passed3 c)
 
 abbrev from5 : tie.Else5 → tie.Start
-from5 c = from4 (c .before)
+from5 c = from4 (passed4 c)
 
 abbrev from6 : tie.Else6 → tie.Start
-from6 c = from5 (c .before .before .before .before)
+from6 c = from5 (passed5 c)
 
 abbrev from7 : tie.Else7 → tie.Start
-from7 c = from6 (c .before)
+from7 c = from6 (passed6 c)
 
 -- what the checks behind it reach, they all reach
 abbrev Past : ℕ → tie.Start → Outcome → Type 0
@@ -42,22 +75,22 @@ past1 : (c : tie.Else1) {v : Outcome} → Past 1 (from1 c) v
 past1 c h = inr (omega arith, h)
 
 past2 : (c : tie.Else2) {v : Outcome} → Past 2 (from2 c) v
-past2 c h = past1 (c .before .before .before .before .before) (inr (omega arith, h))
+past2 c h = past1 (passed1 c) (inr (omega arith, h))
 
 past3 : (c : tie.Else3) {v : Outcome} → Past 3 (from3 c) v
-past3 c h = past2 (c .before .before .before .before) (inr (omega arith, h))
+past3 c h = past2 (passed2 c) (inr (omega arith, h))
 
 past4 : (c : tie.Else4) {v : Outcome} → Past 4 (from4 c) v
-past4 c h = past3 (c .before .before) (inr (omega arith, h))
+past4 c h = past3 (passed3 c) (inr (omega arith, h))
 
 past5 : (c : tie.Else5) {v : Outcome} → Past 5 (from5 c) v
-past5 c h = past4 (c .before) (inr (omega arith, h))
+past5 c h = past4 (passed4 c) (inr (omega arith, h))
 
 past6 : (c : tie.Else6) {v : Outcome} → Past 6 (from6 c) v
-past6 c h = past5 (c .before .before .before .before) (inr (omega arith, h))
+past6 c h = past5 (passed5 c) (inr (omega arith, h))
 
 past7 : (c : tie.Else7) {v : Outcome} → Past 7 (from7 c) v
-past7 c h = past6 (c .before) (inr (omega arith, h))
+past7 c h = past6 (passed6 c) (inr (omega arith, h))
 
 refused-requires : tie.Need-refused-requires
 refused-requires c κs = search needs
@@ -85,27 +118,27 @@ refused-requires-2 c κs = search needs
 
 returns-2 : tie.Need-returns-2
 returns-2 c =
-    let a = from1 (c .before .before .before .before .before .before) .args in
+    let a = from1 (failed2 c) .args in
     refusing (a .side) (a .file .now) (refusalAt MARK (a .side) 0) (c .refused2 .result) (c .refused2 .ensures)
-    (past1 (c .before .before .before .before .before .before) (inl (omega arith, refl)))
+    (past1 (failed2 c) (inl (omega arith, refl)))
 
-shared-slice-read-word : tie.Need-shared-slice-read-word
-shared-slice-read-word c = search needs
+shared-slice-read-sixteen-bits : tie.Need-shared-slice-read-sixteen-bits
+shared-slice-read-sixteen-bits c = search needs
 
-shared-slice-read-word-2 : tie.Need-shared-slice-read-word-2
-shared-slice-read-word-2 c = search needs
+shared-slice-read-sixteen-bits-2 : tie.Need-shared-slice-read-sixteen-bits-2
+shared-slice-read-sixteen-bits-2 c = search needs
 
-word-requires : tie.Need-word-requires
-word-requires c κs = search needs
+sixteen-bits-requires : tie.Need-sixteen-bits-requires
+sixteen-bits-requires c κs = search needs
 
 refused-requires-3 : tie.Need-refused-requires-3
 refused-requires-3 c κs = search needs
 
 returns-3 : tie.Need-returns-3
 returns-3 c =
-    let a = from2 (c .before .before .before .before .before) .args in
+    let a = from2 (failed3 c) .args in
     refusing (a .side) (a .file .now) (refusalAt VERSION (a .side) 0) (c .refused3 .result) (c .refused3 .ensures)
-    (past2 (c .before .before .before .before .before) (inl (omega arith, refl)))
+    (past2 (failed3 c) (inl (omega arith, refl)))
 
 shared-slice-read-wires : tie.Need-shared-slice-read-wires
 shared-slice-read-wires c = search needs
@@ -128,14 +161,14 @@ returns-5 c =
     refusing (a .side) (a .file .now) (refusalAt WIRES (a .side) 0) (c .refused5 .result) (c .refused5 .ensures)
     (past4 (c .before .before) (inl (omega arith, refl)))
 
-shared-slice-read-word-3 : tie.Need-shared-slice-read-word-3
-shared-slice-read-word-3 c = search needs
+shared-slice-read-sixteen-bits-3 : tie.Need-shared-slice-read-sixteen-bits-3
+shared-slice-read-sixteen-bits-3 c = search needs
 
-shared-slice-read-word-4 : tie.Need-shared-slice-read-word-4
-shared-slice-read-word-4 c = search needs
+shared-slice-read-sixteen-bits-4 : tie.Need-shared-slice-read-sixteen-bits-4
+shared-slice-read-sixteen-bits-4 c = search needs
 
-word-requires-2 : tie.Need-word-requires-2
-word-requires-2 c κs = search needs
+sixteen-bits-requires-2 : tie.Need-sixteen-bits-requires-2
+sixteen-bits-requires-2 c κs = search needs
 
 cast-gates : tie.Need-cast-gates
 cast-gates c = search needs
@@ -145,9 +178,9 @@ refused-requires-6 c κs = search needs
 
 returns-6 : tie.Need-returns-6
 returns-6 c =
-    let a = from5 (c .before .before .before .before .before) .args in
+    let a = from5 (failed6 c) .args in
     refusing (a .side) (a .file .now) (refusalAt COUNT (a .side) 0) (c .refused6 .result) (c .refused6 .ensures)
-    (past5 (c .before .before .before .before .before) (inl (omega arith, refl)))
+    (past5 (failed6 c) (inl (omega arith, refl)))
 
 mul-if7 : tie.Need-mul-if7
 mul-if7 c = search needs
@@ -173,7 +206,7 @@ refused-requires-8 c κs = search needs
 returns-8 : tie.Need-returns-8
 returns-8 c =
     let a = from7 (c .before .before .before) .args in
-    let g = c .before .before .before .before .before .word2 in
+    let g = counted (c .before .before .before) .sixteen-bits2 in
     let b = c .before .before .first-bad in
     refusing (a .side) (a .file .now) (refusalAt GATE (a .side) (b .result)) (c .refused8 .result) (c .refused8 .ensures)
     (past7 (c .before .before .before) (bad-gate (a .side) (a .file .now) (g .result) (b .result) (g .ensures) (b .ensures) (c .before .if8 .taken)))
@@ -181,7 +214,7 @@ returns-8 c =
 returns-9 : tie.Need-returns-9
 returns-9 c =
     let a = from7 (c .before .before) .args in
-    let g = c .before .before .before .before .word2 in
+    let g = counted (c .before .before) .sixteen-bits2 in
     let b = c .before .first-bad in
     answering (a .side) (a .file .now) (wiresOf (a .file .now)) (g .result) refl (g .ensures)
     (past7 (c .before .before) (no-bad-gate (a .side) (a .file .now) (g .result) (b .result) (g .ensures) (b .ensures) (c .if8 .left)))
@@ -198,9 +231,9 @@ read-spec =
     mark-requires
     refused-requires-2
     returns-2
-    shared-slice-read-word
-    shared-slice-read-word-2
-    word-requires
+    shared-slice-read-sixteen-bits
+    shared-slice-read-sixteen-bits-2
+    sixteen-bits-requires
     refused-requires-3
     returns-3
     shared-slice-read-wires
@@ -208,9 +241,9 @@ read-spec =
     returns-4
     refused-requires-5
     returns-5
-    shared-slice-read-word-3
-    shared-slice-read-word-4
-    word-requires-2
+    shared-slice-read-sixteen-bits-3
+    shared-slice-read-sixteen-bits-4
+    sixteen-bits-requires-2
     cast-gates
     refused-requires-6
     returns-6

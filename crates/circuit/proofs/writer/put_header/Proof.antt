@@ -6,6 +6,12 @@ use borrow.Author.Needs.{needs}
 use Rattle.circuit.proofs.writer.put_header.Statement.{statement}
 use Rattle.circuit.proofs.writer.put_header.Tie as tie
 
+abbrev first : tie.After-put-four2 → tie.After-put-four
+first c = c .before .before .before .before
+
+abbrev start : tie.After-put-four → tie.Start
+start c = c .before .before .before .before
+
 returns : tie.Need-returns
 returns c =
     let a = c .before .before .args in
@@ -29,9 +35,9 @@ same-length c = search needs
 returns-2 : tie.Need-returns-2
 returns-2 c =
     let second = c .before .before in
-    let first = second .before .before .before .before in
-    let a = first .before .before .before .before .args in
-    header-stored (a .wires) (a .gates) (a .out .now) (first .put-four .last .0) (second .put-four2 .last .0) (omega arith) (first .put-four .ensures) (second .put-four2 .ensures)
+    let one = first second .put-four in
+    let a = start (first second) .args in
+    header-stored (a .wires) (a .gates) (a .out .now) (one .last .0) (second .put-four2 .last .0) (omega arith) (one .ensures) (second .put-four2 .ensures)
 
 pub put-header-spec : {M : Type 1} → statement M
 put-header-spec =

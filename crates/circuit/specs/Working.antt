@@ -1,0 +1,38 @@
+-- A gate's bytes as the code takes them: first whether they are bad, then the gate that they say; and walks over gates.
+use Prim.Native.Nat.{ℕ, _+_, _*_}
+use mathlib.Core.Bool.{Bool, not, _||_, _&&_, cond}
+use mathlib.Core.List.{List, [], _∷_, _++_}
+use lib.Dec.{leb, eqb}
+use lib.ListN.{length, getD}
+use Rattle.circuit.specs.declared.Gate.{Gate}
+use Rattle.circuit.specs.declared.Gate.the-variants.{Cnot, Phase}
+
+-- what makes a CNOT's last three bytes bad on w wires
+abbrev pub badCnot : ℕ → ℕ → ℕ → ℕ → Bool
+badCnot w c t spare = ((leb w c || leb w t) || eqb c t) || not (eqb spare 0)
+
+-- what makes four bytes bad on w wires
+abbrev pub bad : ℕ → ℕ → ℕ → ℕ → ℕ → Bool
+bad w kind a b c = (not (eqb kind 1) || badCnot w a b c) && (not (eqb kind 2) || leb w a)
+
+-- the gate that four bytes say, where they are good
+abbrev pub gateSaid : ℕ → ℕ → ℕ → ℕ → Gate
+gateSaid kind a b c = cond (eqb kind 1) (Cnot a b) (Phase a (b * 256 + c))
+
+-- the i-th four bytes after the header
+abbrev pub fourAt : List ℕ → ℕ → List ℕ
+fourAt f i = getD f (8 + 4 * i) 0 ∷ getD f (8 + 4 * i + 1) 0 ∷ getD f (8 + 4 * i + 2) 0 ∷ getD f (8 + 4 * i + 3) 0 ∷ []
+
+-- the gate that they say; a phase of 0 where they do not all lie in the file
+abbrev pub saidAt : List ℕ → ℕ → Gate
+saidAt f i = cond (leb (12 + 4 * i) (length f)) (gateSaid (getD f (8 + 4 * i) 0) (getD f (8 + 4 * i + 1) 0) (getD f (8 + 4 * i + 2) 0) (getD f (8 + 4 * i + 3) 0)) (Phase 0 0)
+
+-- a walk over gates: what a state becomes, one step a gate
+unfoldable pub walked : {S : Type 0} → (Gate → S → S) → List Gate → S → S
+walked step [] s = s
+walked step (g ∷ gs) s = walked step gs (step g s)
+
+-- and what is written on the way
+unfoldable pub written : {S : Type 0} → (Gate → S → S) → (Gate → S → List ℕ) → List Gate → S → List ℕ
+written step put [] s = []
+written step put (g ∷ gs) s = put g s ++ written step put gs (step g s)
