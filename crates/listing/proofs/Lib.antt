@@ -1,7 +1,6 @@
 pub mod Decimals
 pub mod Fractions
-mod Denominators
 mod Writing
 pub mod Pieces
-mod GateLoops
+mod Loops
 pub mod Answers
