@@ -37,15 +37,23 @@ unfolding wrapLine
 not-wrapped false w e = refl
 not-wrapped true w e = let z : _≡_ {A = ℕ} 0 1 = cc in absurd (omega arith)
 
-module _ {g : Gate} where
-  pub cnot-line : (c t : ℕ) → g ≡ Cnot c t → gateLine g ≡ numbered (words .cnot) c ++ (numbered (words .target) t ++ words .closing)
+module _ (at : ℕ) (out : List ℕ) where
+  pub cnot-left : (c t : ℕ) → at + length (cnotLine c t) ≤ length out → Left (cnotLine c t) at out (numbered (words .cnot) c ++ (numbered (words .target) t ++ words .closing)) at out
   unfolding cnotLine
-  cnot-line c t e = ap gateLine e
+  cnot-left c t h = all-left at out refl h
 
-  pub phase-line : (i a : ℕ) (f : Fraction) → g ≡ Phase i a → f ≡ fractionOf a
-      → gateLine g ≡ numbered (words .phase) (f .above) ++ (numbered (words .over) (f .below) ++ (numbered (words .wire) i ++ words .closing))
+  pub phase-left : (i : ℕ) (f : Fraction) → at + length (phaseLine i f) ≤ length out
+      → Left (phaseLine i f) at out (numbered (words .phase) (f .above) ++ (numbered (words .over) (f .below) ++ (numbered (words .wire) i ++ words .closing))) at out
   unfolding phaseLine
-  phase-line i a f e q = ap gateLine e ∙ ap (phaseLine i) (sym q)
+  phase-left i f h = all-left at out refl h
+
+-- a gate's line is the one of its kind
+module _ {g : Gate} where
+  pub cnot-said : (c t : ℕ) → g ≡ Cnot c t → cnotLine c t ≡ gateLine g
+  cnot-said c t e = sym (ap gateLine e)
+
+  pub phase-said : (i a : ℕ) (f : Fraction) → g ≡ Phase i a → f ≡ fractionOf a → phaseLine i f ≡ gateLine g
+  phase-said i a f e q = ap (phaseLine i) q ∙ sym (ap gateLine e)
 
 -- ---- how long they are
 
@@ -61,17 +69,15 @@ pub no-wrap-long : (w : ℕ) → length (wrapLine false w) ≡ 0
 unfolding wrapLine
 no-wrap-long w = refl
 
-module _ {g : Gate} where
-  pub cnot-long : (c t : ℕ) → g ≡ Cnot c t → length (gateLine g) ≡ length (words .cnot) + length (decimal c) + length (words .target) + length (decimal t) + length (words .closing)
-  cnot-long c t e =
-      ap length (cnot-line c t e)
-      ∙ omega (arith, length-append (decimal c) (numbered (words .target) t ++ words .closing), length-append (decimal t) (words .closing))
+pub cnot-long : (c t : ℕ) → length (cnotLine c t) ≡ length (words .cnot) + length (decimal c) + length (words .target) + length (decimal t) + length (words .closing)
+unfolding cnotLine
+cnot-long c t = omega (arith, length-append (decimal c) (numbered (words .target) t ++ words .closing), length-append (decimal t) (words .closing))
 
-  pub phase-long : (i a : ℕ) (f : Fraction) → g ≡ Phase i a → f ≡ fractionOf a
-      → length (gateLine g) ≡ length (words .phase) + length (decimal (f .above)) + length (words .over) + length (decimal (f .below)) + length (words .wire) + length (decimal i) + length (words .closing)
-  phase-long i a f e q =
-      ap length (phase-line i a f e q)
-      ∙ omega (arith, length-append (decimal (f .above)) (numbered (words .over) (f .below) ++ (numbered (words .wire) i ++ words .closing)), length-append (decimal (f .below)) (numbered (words .wire) i ++ words .closing), length-append (decimal i) (words .closing))
+pub phase-long : (i : ℕ) (f : Fraction) → length (phaseLine i f)
+    ≡ length (words .phase) + length (decimal (f .above)) + length (words .over) + length (decimal (f .below)) + length (words .wire) + length (decimal i) + length (words .closing)
+unfolding phaseLine
+phase-long i f =
+    omega (arith, length-append (decimal (f .above)) (numbered (words .over) (f .below) ++ (numbered (words .wire) i ++ words .closing)), length-append (decimal (f .below)) (numbered (words .wire) i ++ words .closing), length-append (decimal i) (words .closing))
 
 -- a header, an h line and a gate's line on at most 10 wires
 pub head-short : (w : ℕ) → w ≤ 10 → length (headLines w) ≤ 48
@@ -82,13 +88,13 @@ wrap-short true w h = omega (arith, wrap-long w, one-digit (w - 1) (omega arith)
 wrap-short false w h = omega (arith, no-wrap-long w)
 
 line-short : (g : Gate) → Sound 10 g → length (gateLine g) ≤ longestLine
-line-short (Cnot c t) s = omega (arith, cnot-long c t refl, one-digit c (s .0), one-digit t (s .1))
+line-short (Cnot c t) s = omega (arith, cnot-long c t, one-digit c (s .0), one-digit t (s .1))
 line-short (Phase i a) s =
     let f = fractionOf a in
     let m = denominator-most a in
     omega (
       arith,
-      phase-long i a f refl refl,
+      phase-long i f,
       five-digits (f .above) (omega (arith, fraction-equals a, mul-le-mul-left a m, s .1)),
       five-digits (f .below) (omega arith),
       one-digit i (s .0),

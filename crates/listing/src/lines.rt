@@ -10,7 +10,7 @@ ghost use Prim.Native.Nat.{_+_, _/_, _^_, _≤_};
 ghost use lib.ListN.{length};
 ghost use Rattle.circuit.specs.Bytes.{Wrote};
 ghost use Rattle.listing.specs.Fractions.{over, fractionOf};
-ghost use Rattle.listing.specs.Listing.{headLines, wrapLine, gateLine};
+ghost use Rattle.listing.specs.Listing.{headLines, wrapLine, cnotLine, phaseLine, gateLine};
 
 // How often an angle and 32,768 can both be halved.
 fn halvings(angle: u16) -> u16
@@ -88,21 +88,33 @@ pub(crate) fn line_length(gate: Gate) -> usize
     }
 }
 
+fn put_cnot(control: u8, target: u8, out: &mut [u8], at: usize) -> usize
+    requires { ⌜ at + length (cnotLine control target) ≤ length (now out) ⌝ }
+    ensures { λ r. ⌜ Wrote (cnotLine control target) at (now (out .entry)) r (now (out .exit)) ⌝ }
+{
+    let at = put_numbered(&words::CNOT, control as u16, out, at);
+    put_last(&words::TARGET, target as u16, out, at)
+}
+
+fn put_phase(wire: u8, above: u16, below: u16, out: &mut [u8], at: usize) -> usize
+    requires { ⌜ at + length (phaseLine wire (over above below)) ≤ length (now out) ⌝ }
+    ensures { λ r. ⌜ Wrote (phaseLine wire (over above below)) at (now (out .entry)) r (now (out .exit)) ⌝ }
+{
+    let at = put_numbered(&words::PHASE, above, out, at);
+    let at = put_numbered(&words::OVER, below, out, at);
+    put_last(&words::WIRE, wire as u16, out, at)
+}
+
 // A gate's line.
 pub(crate) fn put_gate(gate: Gate, out: &mut [u8], at: usize) -> usize
     requires { ⌜ at + length (gateLine gate) ≤ length (now out) ⌝ }
     ensures { λ r. ⌜ Wrote (gateLine gate) at (now (out .entry)) r (now (out .exit)) ⌝ }
 {
     match gate {
-        Gate::Cnot { control, target } => {
-            let at = put_numbered(&words::CNOT, control as u16, out, at);
-            put_last(&words::TARGET, target as u16, out, at)
-        }
+        Gate::Cnot { control, target } => put_cnot(control, target, out, at),
         Gate::Phase { wire, angle } => {
             let twos = halvings(angle);
-            let at = put_numbered(&words::PHASE, angle >> twos, out, at);
-            let at = put_numbered(&words::OVER, 32768 >> twos, out, at);
-            put_last(&words::WIRE, wire as u16, out, at)
+            put_phase(wire, angle >> twos, 32768 >> twos, out, at)
         }
     }
 }

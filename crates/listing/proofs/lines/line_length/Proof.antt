@@ -1,7 +1,9 @@
 use Prim.Native.Nat.{_/_, _^_}
 use native.Mathlib.Omega.{arith}
+use mathlib.Core.Path.{ap}
+use lib.ListN.{length}
 use Rattle.listing.specs.Fractions.{over}
-use Rattle.listing.proofs.Pieces.{cnot-long, phase-long}
+use Rattle.listing.proofs.Pieces.{cnot-said, phase-said, cnot-long, phase-long}
 use borrow.Author.Needs.{needs}
 use Rattle.listing.proofs.lines.line_length.Statement.{statement}
 use Rattle.listing.proofs.lines.line_length.Tie as tie
@@ -84,14 +86,15 @@ add-result-10 c = search needs
 returns : tie.Need-returns
 returns c =
     let v = cnot c .gate .given in
-    omega (arith, cnot-long (v .0 .0) (v .0 .1 .0) (v .1), c .before .digits .ensures, c .digits2 .ensures)
+    omega (arith, ap length (cnot-said (v .0 .0) (v .0 .1 .0) (v .1)), cnot-long (v .0 .0) (v .0 .1 .0), c .before .digits .ensures, c .digits2 .ensures)
 
 returns-2 : tie.Need-returns-2
 returns-2 c =
     let h = halved c in
     let v = h .before .before .gate2 .given in
     let r = h .halvings .result in
-    omega (arith, phase-long (v .0 .0) (v .0 .1 .0) (over (v .0 .1 .0 / 2 ^ r) (32768 / 2 ^ r)) (v .1) (h .halvings .ensures .1), c .before .before .digits3 .ensures, c .before .digits4 .ensures, c .digits5 .ensures)
+    let f = over (v .0 .1 .0 / 2 ^ r) (32768 / 2 ^ r) in
+    omega (arith, ap length (phase-said (v .0 .0) (v .0 .1 .0) f (v .1) (h .halvings .ensures .1)), phase-long (v .0 .0) f, c .before .before .digits3 .ensures, c .before .digits4 .ensures, c .digits5 .ensures)
 
 pub line-length-spec : {M : Type 1} → statement M
 line-length-spec =
