@@ -1,4 +1,4 @@
--- The builder's three ways out, and that it has one answer and one buffer.
+-- The builder's three ways out, and what its local rows come to.
 use Prim.Native.Nat.{ℕ, _+_, _-_, _^_, _<_, _≤_}
 use native.Mathlib.Nat.{zero-add}
 use native.Mathlib.Decide.{decLt}
@@ -10,24 +10,24 @@ use lib.Seq.{getD-drop, getD-append-add}
 use lib.Pow.{pow-mono}
 use lib.IntN.{ℤ, pos, natAbs}
 use Rattle.numbers.specs.Sums.{list}
-use Rattle.numbers.proofs.Lists.{getD-list}
+use Rattle.numbers.proofs.Lists.{length-list, getD-list}
 use Rattle.refusal.specs.declared.Refusal.{Refusal}
 use Rattle.refusal.specs.Names.{refusal, ROOM}
 use Rattle.refusal.specs.Checks.{passed, refused, outcome}
 use Rattle.refusal.specs.Contract.{values}
-use Rattle.refusal.proofs.Contracts.{Distinct, same-refusal}
 use Rattle.refusal.proofs.Rooms.{earlier-refused, room-refused, room-enough}
 use Rattle.table.specs.Table.{tableChecks, valueAt}
 use Rattle.spectrum.specs.Spectrum.{coefficient, spectrumOf, angle, theta}
-use Rattle.spectrum.proofs.Spectra.{length-spectrum}
+use Rattle.spectrum.proofs.Callers.{length-spectrum}
 use Rattle.spectrum.proofs.Angles.{coefficient-size}
 use Rattle.circuit.specs.Bytes.{putAt}
 use Rattle.circuit.specs.File.{fileOf}
 use Rattle.circuit.proofs.Writing.{put-fits}
 use Rattle.build.specs.declared.Built.the-variants.{Length, Refused}
-use Rattle.build.specs.Construction.{minus, parts, construction, builtFile, builtSays, Builds}
+use Rattle.build.specs.Construction.{minus, construction, builtFile, builtSays, Builds}
+use Rattle.build.specs.Working.{parts}
 use Rattle.build.proofs.Circuits.{parts-same}
-use Rattle.build.proofs.Oracles.{built-long}
+use Rattle.build.proofs.Files.{built-long}
 
 module _ (n : ℕ) (t before : List ℕ) where
   pub table-fails : (r : Refusal) → outcome (tableChecks n t) ≡ refused r → Builds n t before (Refused r) before
@@ -73,16 +73,17 @@ module _ (n : ℕ) (t : List ℕ) (small : n ≤ 8) (row : List ℤ) (e : row �
           let p : length (spectrumOf n t) + j ≡ k = omega (arith, length-spectrum n t) in
           omega (arith, ap (λ (m : ℕ). natAbs (getD row m (pos 0))) (sym p) ∙ ap natAbs (row-past j))
 
-  module _ (angles opposites : List ℕ) (l l′ : ℕ) (wide : 256 ≤ l) (wide′ : 256 ≤ l′) (ea : angles ≡ list l (λ k. angle n (getD row k (pos 0)))) (eo : opposites ≡ list l′ (λ k. minus (getD angles k 0))) where
+  module _ (angles opposites : List ℕ) (l : ℕ) (wide : 256 ≤ l) (ea : angles ≡ list l (λ k. angle n (getD row k (pos 0)))) (eo : opposites ≡ list (length angles) (λ k. minus (getD angles k 0))) where
     angle-at : (k : ℕ) → k < 2 ^ n → getD angles k 0 ≡ theta n (valueAt t) k
     angle-at k h =
         ap (λ m. getD m k 0) ea ∙ getD-list l (λ j. angle n (getD row j (pos 0))) k 0 (omega (arith, pow-mono {i = n} {j = 8} small)) ∙ ap (angle n) (row-at k h)
 
     opposite-at : (k : ℕ) → k < 2 ^ n → getD opposites (0 + k) 0 ≡ minus (theta n (valueAt t) k)
     opposite-at k h =
-        ap₂ (λ m (j : ℕ). getD m j 0) eo (zero-add k) ∙ getD-list l′ (λ j. minus (getD angles j 0)) k 0 (omega (arith, pow-mono {i = n} {j = 8} small)) ∙ ap minus (angle-at k h)
+        let long = ap length ea ∙ length-list l (λ j. angle n (getD row j (pos 0))) in
+        ap₂ (λ m (j : ℕ). getD m j 0) eo (zero-add k) ∙ getD-list (length angles) (λ j. minus (getD angles j 0)) k 0 (omega (arith, long, pow-mono {i = n} {j = 8} small)) ∙ ap minus (angle-at k h)
 
-    pub file-is : fileOf (n + 1) (parts n (λ k. getD angles k 0) (λ v. getD opposites (0 + v) 0)) ≡ builtFile n t
+    file-is : fileOf (n + 1) (parts n (λ k. getD angles k 0) (λ v. getD opposites (0 + v) 0)) ≡ builtFile n t
     unfolding construction
     file-is = ap (fileOf (n + 1)) (parts-same n (λ k. getD angles k 0) (λ v. getD opposites (0 + v) 0) (theta n (valueAt t)) (λ v. minus (theta n (valueAt t) v)) angle-at opposite-at)
 
@@ -92,11 +93,3 @@ module _ (n : ℕ) (t : List ℕ) (small : n ≤ 8) (row : List ℤ) (e : row �
     leaves-file p before after h w =
         w ∙ ap (λ b. putAt b 0 before) file-is ∙ put-fits (builtFile n t) 0 before (omega (arith, built-long n t p))
         ∙ ap (λ (m : ℕ). builtFile n t ++ drop m before) (zero-add (length (builtFile n t)))
-
--- ---- no two answers say the same
-
-pub built-distinct : Distinct builtSays
-built-distinct (Length j) (Length k) e = ap Length (cc)
-built-distinct (Length j) (Refused r) e = let z : _≡_ {A = ℕ} 0 1 = cc in absurd (omega arith)
-built-distinct (Refused r) (Length k) e = let z : _≡_ {A = ℕ} 0 1 = cc in absurd (omega arith)
-built-distinct (Refused r) (Refused s) e = ap Refused (same-refusal r s e)

@@ -48,7 +48,7 @@ module _ (w i : ℕ) (h : i < w) where
       ∙ ap (set (holding w i v) i) (mixes-word v d hv hd) ∙ set-set (ownMasks w) i (2 ^ i + v) (2 ^ i + bitXor v (2 ^ d))
 
 -- the gates of one k
-abbrev pairAt : ℕ → (ℕ → ℕ) → ℕ → List Gate
+abbrev pub pairAt : ℕ → (ℕ → ℕ) → ℕ → List Gate
 pairAt i angleAt k = Phase i (angleAt (word i k)) ∷ cnotAfter i k
 
 module _ (w j : ℕ) (h : suc j < w) (angleAt : ℕ → ℕ) (f : ℕ → ℕ → ℕ) where

@@ -1,6 +1,6 @@
 -- Construction 1 as a gate list: how long it is, that it is sound, that its wires are restored, and which masks it meets.
 use Prim.Native.Nat.{ℕ, zero, suc, _+_, _-_, _*_, _^_, _<_, _≤_}
-use native.Mathlib.Nat.{add-zero, zero-add, add-assoc, add-comm, mod-lt, zero-mul, suc-mul, two-pow-succ}
+use native.Mathlib.Nat.{add-zero, zero-add, add-assoc, add-comm, zero-mul, suc-mul, two-pow-succ}
 use native.Mathlib.Omega.{arith}
 use mathlib.Core.Path.{_≡_, refl, sym, ap, ap₂, _∙_}
 use mathlib.Core.List.{List, [], _∷_, _++_}
@@ -10,18 +10,21 @@ use lib.IntN.{pos, _*ℤ_}
 use Rattle.numbers.specs.Sums.{sum}
 use Rattle.numbers.proofs.Sums.{ℕ-adds, sumOf-map, sumOf-ext, sumOf-split}
 use Rattle.numbers.proofs.Lists.{getD-list}
-use Rattle.numbers.proofs.Turns.{wrap-below}
+use Rattle.numbers.proofs.Turns.{difference-below, wrap-below}
 use Rattle.spectrum.specs.Spectrum.{coefficient, theta}
 use Rattle.circuit.specs.declared.Gate.{Gate}
 use Rattle.circuit.specs.declared.Gate.the-variants.{Phase}
 use Rattle.circuit.specs.Gates.{AllSound}
+use Rattle.circuit.specs.File.{fileOf}
 use Rattle.running.specs.Masks.{ownMasks, masksFrom, sumMet}
 use Rattle.circuit.proofs.Decoding.{sound-cons, sound-append}
+use Rattle.circuit.proofs.Files.{length-file}
 use Rattle.running.proofs.Masks.{masks-none, masks-cons, masks-append, sum-none, sum-cons, sum-append}
 use Rattle.build.specs.Gray.{word}
-use Rattle.build.specs.Construction.{inTurn, cnotAfter, block, minus, firstQuarter, variables, target, parts, construction}
+use Rattle.build.specs.Construction.{inTurn, cnotAfter, block, minus, firstQuarter, variables, target, construction}
+use Rattle.build.specs.Working.{parts}
 use Rattle.build.proofs.Gray.{turned-below, word-below}
-use Rattle.build.proofs.Blocks.{block-masks, block-sum}
+use Rattle.build.proofs.Blocks.{pairAt, block-masks, block-sum}
 
 -- ---- how many gates
 
@@ -36,7 +39,7 @@ pub length-first : (angleAt : ℕ → ℕ) → length (block 0 angleAt) ≡ 1
 length-first angleAt = refl
 
 pub length-block : (j : ℕ) (angleAt : ℕ → ℕ) → length (block (suc j) angleAt) ≡ 2 ^ suc j * 2
-length-block j angleAt = length-inTurn (2 ^ suc j) (λ k. Phase (suc j) (angleAt (word (suc j) k)) ∷ cnotAfter (suc j) k) ∙ sum-same (2 ^ suc j) 2
+length-block j angleAt = length-inTurn (2 ^ suc j) (pairAt (suc j) angleAt) ∙ sum-same (2 ^ suc j) 2
 
 pub length-variables : (m : ℕ) (angleAt : ℕ → ℕ) → length (variables (suc m) angleAt) + 3 ≡ 2 ^ suc (suc m)
 length-variables zero angleAt = refl
@@ -45,14 +48,15 @@ length-variables (suc m) angleAt =
     ∙ omega (arith, length-variables m angleAt, length-block m (λ (v : ℕ). angleAt (2 ^ suc m + v)))
 
 -- "The gates number 2^(n+2) - 2", whatever the angles
-pub length-parts : (m : ℕ) (a b : ℕ → ℕ) → length (parts (suc m) a b) + 2 ≡ 2 ^ (suc m + 2)
-length-parts m a b =
+pub length-parts : (n : ℕ) (a b : ℕ → ℕ) → 0 < n → length (parts n a b) + 2 ≡ 2 ^ (n + 2)
+length-parts zero a b p = absurd (omega arith)
+length-parts (suc m) a b p =
     ap (_+ 2) (length-append (firstQuarter (suc m) ++ variables (suc m) a) (block (suc m) b) ∙ ap (_+ length (block (suc m) b)) (length-append (firstQuarter (suc m)) (variables (suc m) a)))
     ∙ omega (arith, length-variables m a, length-block m b, pow-add 2 (suc m) 2)
 
-pub length-construction : (m : ℕ) (f : ℕ → ℕ) → length (construction (suc m) f) + 2 ≡ 2 ^ (suc m + 2)
-unfolding construction
-length-construction m f = length-parts m (theta (suc m) f) (λ v. minus (theta (suc m) f v))
+-- "the file is 2^(n+4) bytes"
+pub length-parts-file : (n : ℕ) (a b : ℕ → ℕ) → 0 < n → length (fileOf (n + 1) (parts n a b)) ≡ 2 ^ (n + 4)
+length-parts-file n a b p = omega (arith, length-file (n + 1) (parts n a b), length-parts n a b p, pow-add 2 n 2, pow-add 2 n 4)
 
 -- ---- sound on n + 1 wires
 
@@ -71,7 +75,7 @@ sound-cnot w (suc j) k h l = ((omega (arith, turned-below j k l), h, omega (arit
 
 pub sound-block : (w i : ℕ) (angleAt : ℕ → ℕ) → i < w → Angles angleAt → AllSound w (block i angleAt)
 sound-block w i angleAt h a =
-    sound-inTurn w (2 ^ i) (λ k. Phase i (angleAt (word i k)) ∷ cnotAfter i k)
+    sound-inTurn w (2 ^ i) (pairAt i angleAt)
     (λ k l. sound-cons w (Phase i (angleAt (word i k))) (cnotAfter i k) (h, a (word i k)) (sound-cnot w i k h l))
 
 pub theta-below : (n : ℕ) (f : ℕ → ℕ) (k : ℕ) → theta n f k < 65536
@@ -84,7 +88,7 @@ sound-construction n f =
     sound-append (n + 1) (firstQuarter n) (variables n θ ++ target n θ) ((omega arith, omega arith), tt)
     (sound-append (n + 1) (variables n θ) (target n θ)
     (sound-inTurn (n + 1) n (λ i. block i (λ v. θ (2 ^ i + v))) (λ i h. sound-block (n + 1) i (λ v. θ (2 ^ i + v)) (omega arith) (λ v. theta-below n f (2 ^ i + v))))
-    (sound-block (n + 1) n (λ v. minus (θ v)) (omega arith) (λ v. mod-lt (65536 - θ v) (omega arith))))
+    (sound-block (n + 1) n (λ v. minus (θ v)) (omega arith) (λ v. difference-below 0 (θ v))))
 
 -- ---- the masks
 
@@ -143,7 +147,7 @@ module _ (n : ℕ) (f : ℕ → ℕ) where
 
 block-same : (i : ℕ) (a b : ℕ → ℕ) → ((v : ℕ) → v < 2 ^ i → a v ≡ b v) → block i a ≡ block i b
 block-same i a b h =
-    sumOf-ext [] _++_ (2 ^ i) (λ k. Phase i (a (word i k)) ∷ cnotAfter i k) (λ k. Phase i (b (word i k)) ∷ cnotAfter i k)
+    sumOf-ext [] _++_ (2 ^ i) (pairAt i a) (pairAt i b)
     (λ k l. ap (λ (x : ℕ). Phase i x ∷ cnotAfter i k) (h (word i k) (word-below i k l)))
 
 pub parts-same : (n : ℕ) (a b c d : ℕ → ℕ) → ((k : ℕ) → k < 2 ^ n → a k ≡ c k) → ((k : ℕ) → k < 2 ^ n → b k ≡ d k) → parts n a b ≡ parts n c d

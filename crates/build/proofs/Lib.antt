@@ -1,9 +1,10 @@
+pub mod Callers
 pub mod Gray
 pub mod Blocks
 pub mod Circuits
 pub mod Oracle
+pub mod Files
 pub mod Wrapping
 pub mod Pieces
 pub mod Assembly
-pub mod Oracles
 pub mod Answers

@@ -1,8 +1,8 @@
 -- The built circuit is its table's oracle: every state ends where it starts, with phase 32,768 f(x) y, by the spectrum's inversion.
 use Prim.Native.Nat.{ℕ, zero, suc, _+_, _-_, _*_, _%_, _^_, _<_, _≤_}
-use native.Mathlib.Nat.{add-zero, zero-add, mul-one, mul-zero, add-mul, zero-mul, le-refl}
+use native.Mathlib.Nat.{add-zero, zero-add, add-comm, mul-one, mul-zero, add-mul, zero-mul, le-refl}
 use native.Mathlib.Omega.{arith}
-use mathlib.Core.Path.{_≡_, refl, sym, ap, subst, subst₂, _∙_}
+use mathlib.Core.Path.{_≡_, sym, ap, subst, subst₂, _∙_}
 use lib.ListN.{getD}
 use lib.Pow.{pow-pos, pow-add}
 use lib.IntN.{ℤ, pos, negℤ, _*ℤ_}
@@ -11,7 +11,7 @@ use Rattle.numbers.specs.Sums.{sum, sumℤ}
 use Rattle.numbers.specs.Turn.{_≈_, flip}
 use Rattle.numbers.proofs.Sums.{ℕ-adds, sumOf-plus}
 use Rattle.numbers.proofs.Lists.{getD-list}
-use Rattle.numbers.proofs.Turns.{_≈∙_, ≈-of, ≈-sym, ≈-add, ≈-refl, ≈-mod, ≈-cancel, ≈-scale, ≈-turns}
+use Rattle.numbers.proofs.Turns.{_≈∙_, ≈-of, ≈-sym, ≈-add, ≈-refl, ≈-cancel, ≈-scale, ≈-turns, difference-adds}
 use Rattle.numbers.proofs.Angles.{≈-sum-none}
 use Rattle.numbers.proofs.Parity.{dot-below, dot-none, dot-low-high, dot-high-low, dot-high-high}
 use Rattle.numbers.proofs.Wires.{same-bits, dot-power}
@@ -32,7 +32,7 @@ construction-ends n f s h =
     ∙ ap (λ (m : ℕ). dot m s) (getD-list (n + 1) (λ j. 2 ^ j) i 0 l) ∙ dot-power i s)
 
 minus-opposite : (a : ℕ) → a < 65536 → a + minus a ≈ 0
-minus-opposite a h = ≈-add (≈-refl {a = a}) (≈-mod (65536 - a)) ≈∙ ≈-of (let e : a + (65536 - a) ≡ 65536 = omega arith in e) ≈∙ record { turned = refl }
+minus-opposite a h = ≈-of (add-comm a (minus a)) ≈∙ difference-adds 0 a h
 
 -- the angle of a sum of integers
 angle-sum : (n m : ℕ) (g : ℕ → ℤ) → angle n (sumℤ m g) ≈ sum m (λ k. angle n (g k))

@@ -13,7 +13,6 @@ use mir.Val.{Fits, SFits, toZ, ofZ}
 use Rattle.numbers.specs.Turn.{wrap}
 use Rattle.numbers.proofs.Turns.{wrap-below, wrap-mul}
 use Rattle.spectrum.specs.Spectrum.{angle}
-use Rattle.build.specs.Construction.{minus}
 use Rattle.spectrum.proofs.Words.{fits32, stays}
 
 -- a negative number is taken from 0, any other stays
@@ -76,8 +75,4 @@ read-small z h = rw (in-words z h) h
 -- the angle of a coefficient is its own, scaled
 pub scaled-is : (n : ℕ) (z : ℤ) (a scale r : ℕ) → natAbs z ≤ 256 → a ≡ wrap (toZ w32 (ofZ w32 z)) → scale ≡ 2 ^ (14 - n) → r ≡ a * scale % 65536 → r ≡ angle n z
 scaled-is n z a scale r h p q e =
-    e ∙ ap₂ (λ (x y : ℕ). x * y % 65536) (p ∙ ap wrap (in-words z h)) q ∙ sym (wrap-mul z (2 ^ (14 - n)) .turned) ∙ mod-eq-of-lt (wrap-below (z *ℤ pos (2 ^ (14 - n))))
-
--- what wraps back to 0 is the opposite
-pub opposite-is : (a r : ℕ) → a < 65536 → r < 65536 → (r + a) % 65536 ≡ 0 → r ≡ minus a
-opposite-is a r h k e = omega arith
+    e ∙ ap₂ (λ (x y : ℕ). x * y % 65536) (p ∙ ap wrap (in-words z h)) q ∙ sym (wrap-mul z (2 ^ (14 - n)) .alike) ∙ mod-eq-of-lt (wrap-below (z *ℤ pos (2 ^ (14 - n))))

@@ -1,8 +1,9 @@
 -- 01, "The built circuit": its gates "in this order", its file, and what the operation answers.
-use Prim.Native.Nat.{ℕ, zero, suc, _+_, _-_, _%_, _^_}
+use Prim.Native.Nat.{ℕ, zero, suc, _+_, _^_}
 use mathlib.Core.List.{List, [], _∷_, _++_}
 use lib.ListN.{length}
 use Rattle.numbers.specs.Sums.{sumOf}
+use Rattle.numbers.specs.Turn.{difference}
 use Rattle.refusal.specs.Checks.{Check, outcome, roomCheck}
 use Rattle.refusal.specs.Contract.{Said, values, saidOf, Meets}
 use Rattle.table.specs.Table.{tableChecks, valueAt}
@@ -29,7 +30,7 @@ block i angleAt = inTurn (2 ^ i) (λ k. Phase i (angleAt (word i k)) ∷ cnotAft
 
 -- an angle's opposite
 abbrev pub minus : ℕ → ℕ
-minus a = (65536 - a) % 65536
+minus = difference 0
 
 -- "1. phase 16,384 on wire n"
 abbrev pub firstQuarter : ℕ → List Gate
@@ -42,10 +43,6 @@ variables n angleAt = inTurn n (λ i. block i (λ v. angleAt (2 ^ i + v)))
 -- "3. .. with the words of n bits: phase minus theta at v_k on wire n, then CNOT"
 abbrev pub target : ℕ → (ℕ → ℕ) → List Gate
 target n angleAt = block n (λ v. minus (angleAt v))
-
--- the three parts, with the angles of steps 2 and 3
-abbrev pub parts : ℕ → (ℕ → ℕ) → (ℕ → ℕ) → List Gate
-parts n angleAt minusAt = firstQuarter n ++ variables n angleAt ++ block n minusAt
 
 -- "In this order"
 unfoldable pub construction : ℕ → (ℕ → ℕ) → List Gate

@@ -1,2 +1,3 @@
 pub mod Gray
 pub mod Construction
+pub mod Working

@@ -1,4 +1,4 @@
-// theta_k from s_k, and its opposite.
+// theta_k from s_k.
 ghost use mathlib.Core.Path.{_≡_};
 ghost use Prim.Native.Nat.{ℕ, _≤_, _*_, _%_};
 ghost use lib.ListN.{length, getD};
@@ -6,7 +6,6 @@ ghost use lib.IntN.{pos, natAbs};
 ghost use Rattle.numbers.specs.Sums.{list};
 ghost use Rattle.numbers.specs.Turn.{wrap};
 ghost use Rattle.spectrum.specs.Spectrum.{angle};
-ghost use Rattle.build.specs.Construction.{minus};
 
 // The angle of each coefficient.
 pub(crate) fn write_angles(n: u8, coefficients: &[i32], out: &mut [u16])
@@ -48,17 +47,4 @@ fn scaled(angle: u16, scale: u32) -> u16
     ensures { λ r. ⌜ r ≡ angle * scale % 65536 ⌝ }
 {
     ((angle as u32) * scale % 65536) as u16
-}
-
-// Each angle's opposite.
-pub(crate) fn write_opposites(angles: &[u16], out: &mut [u16])
-    requires { ⌜ length (now out) ≡ length (now angles) ⌝ }
-    ensures { λ _. ⌜ now (out .exit) ≡ list (length (now (out .entry))) (λ k. minus (getD (now (angles .entry)) k 0)) ⌝ }
-{
-    let entries = out.len();
-    let mut k: usize = 0;
-    while k < entries {
-        out[k] = std::num::wrapping_sub_u16(0, angles[k]);
-        k += 1;
-    }
 }

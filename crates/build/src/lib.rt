@@ -10,7 +10,8 @@ ghost use Prim.Native.Nat.{_^_, _+_, _<_, _≤_};
 ghost use lib.ListN.{length, getD};
 ghost use Rattle.circuit.specs.Bytes.{putAt};
 ghost use Rattle.circuit.specs.File.{fileOf};
-ghost use Rattle.build.specs.Construction.{parts, Builds};
+ghost use Rattle.build.specs.Construction.{Builds};
+ghost use Rattle.build.specs.Working.{parts};
 
 pub enum Built {
     Length(usize),
@@ -31,8 +32,8 @@ pub fn build(n: u8, table: &[u8], out: &mut [u8]) -> Built
     }
     let mut theta = [0u16; 256];
     angles::write_angles(n, &coefficients, &mut theta);
-    let mut minus = [0u16; 256];
-    angles::write_opposites(&theta, &mut minus);
+    let mut minus = theta;
+    numbers::negate(&mut minus);
     write_file(n, &theta, &minus, out);
     Built::Length(file)
 }

@@ -1,39 +1,39 @@
 -- Angles modulo a turn: a congruence, and the angle of an integer.
 use Prim.Native.Nat.{ℕ, zero, suc, _+_, _-_, _*_, _%_, _<_}
-use native.Mathlib.Nat.{add-mod, mod-mod, add-mul-mod-self-right, mod-eq-of-lt, add-mul, mul-suc, add-comm, add-zero, mul-comm, mul-zero, zero-add, zero-mul}
+use native.Mathlib.Nat.{add-mod, mod-mod, add-mul-mod-self-right, mod-lt, mod-eq-of-lt, add-mul, mul-suc, add-comm, add-zero, mul-comm, mul-zero, zero-add, zero-mul}
 use native.Mathlib.Omega.{arith}
 use mathlib.Core.Path.{_≡_, refl, sym, ap, ap₂, _∙_}
 use mathlib.Core.Bool.{Bool, true, false, cond}
 use borrow.Author.Tests.{ltb-true, ltb-false}
 use lib.Dec.{ltb}
 use lib.IntN.{ℤ, pos, negsuc, negℤ, subℕ, _+ℤ_, _*ℤ_}
-use Rattle.numbers.specs.Turn.{_≈_, wrap}
+use Rattle.numbers.specs.Turn.{_≈_, difference, wrap}
 
 pub ≈-of : {a b : ℕ} → a ≡ b → a ≈ b
-≈-of p = record { turned = ap (_% 65536) p }
+≈-of p = record { alike = ap (_% 65536) p }
 
 pub ≈-refl : {a : ℕ} → a ≈ a
-≈-refl = record { turned = refl }
+≈-refl = record { alike = refl }
 
 pub ≈-sym : {a b : ℕ} → a ≈ b → b ≈ a
-≈-sym p = record { turned = sym (p .turned) }
+≈-sym p = record { alike = sym (p .alike) }
 
 infixr 30 _≈∙_
 pub _≈∙_ : {a b c : ℕ} → a ≈ b → b ≈ c → a ≈ c
-_≈∙_ p q = record { turned = p .turned ∙ q .turned }
+_≈∙_ p q = record { alike = p .alike ∙ q .alike }
 
 pub ≈-mod : (a : ℕ) → a % 65536 ≈ a
-≈-mod a = record { turned = mod-mod a 65536 }
+≈-mod a = record { alike = mod-mod a 65536 }
 
 -- angles below a turn are the same angle only where they are the same number
 pub ≈-small : {a b : ℕ} → a < 65536 → b < 65536 → a ≈ b → a ≡ b
-≈-small h k p = sym (mod-eq-of-lt h) ∙ p .turned ∙ mod-eq-of-lt k
+≈-small h k p = sym (mod-eq-of-lt h) ∙ p .alike ∙ mod-eq-of-lt k
 
 pub ≈-add : {a b c d : ℕ} → a ≈ b → c ≈ d → a + c ≈ b + d
-≈-add {a} {b} {c} {d} p q = record { turned = add-mod a c 65536 ∙ ap₂ (λ (x y : ℕ). (x + y) % 65536) (p .turned) (q .turned) ∙ sym (add-mod b d 65536) }
+≈-add {a} {b} {c} {d} p q = record { alike = add-mod a c 65536 ∙ ap₂ (λ (x y : ℕ). (x + y) % 65536) (p .alike) (q .alike) ∙ sym (add-mod b d 65536) }
 
 pub ≈-turns : (a k : ℕ) → a + k * 65536 ≈ a
-≈-turns a k = record { turned = add-mul-mod-self-right a k 65536 }
+≈-turns a k = record { alike = add-mul-mod-self-right a k 65536 }
 
 pub ≈-cancel : {a b : ℕ} (c : ℕ) → a + c ≈ b + c → a ≈ b
 ≈-cancel {a} {b} c h =
@@ -46,6 +46,28 @@ pub ≈-scale : {a b : ℕ} (k : ℕ) → a ≈ b → a * k ≈ b * k
 pub ≈-mul : {a b c d : ℕ} → a ≈ b → c ≈ d → a * c ≈ b * d
 ≈-mul {a} {b} {c} {d} p q = ≈-scale c p ≈∙ ≈-of (mul-comm b c) ≈∙ ≈-scale b q ≈∙ ≈-of (mul-comm d b)
 
+-- ---- the difference of two angles
+
+pub difference-below : (a b : ℕ) → difference a b < 65536
+difference-below a b = mod-lt (a + 65536 - b) (omega arith)
+
+-- what the second angle wraps to the first is their difference: the wrapping subtraction
+pub subtracted : (a b r : ℕ) → r < 65536 → b < 65536 → (r + b) % 65536 ≡ a → r ≡ difference a b
+subtracted a b r hr hb e = omega arith
+
+pub difference-adds : (a b : ℕ) → b < 65536 → difference a b + b ≈ a
+difference-adds a b h =
+    ≈-add (≈-mod (a + 65536 - b)) (≈-refl {a = b}) ≈∙ ≈-of (let e : a + 65536 - b + b ≡ a + 1 * 65536 = omega arith in e) ≈∙ ≈-turns a 1
+
+-- it is none exactly where they are the same
+pub difference-none : (a b : ℕ) → a < 65536 → b < 65536 → difference a b ≡ 0 → a ≡ b
+difference-none a b ha hb e = omega arith
+
+pub none-difference : (a b : ℕ) → a < 65536 → a ≡ b → difference a b ≡ 0
+none-difference a b ha e = omega arith
+
+-- ---- the angle of an integer
+
 pub wrap-below : (z : ℤ) → wrap z < 65536
 wrap-below (pos m) = omega arith
 wrap-below (negsuc m) = omega arith
@@ -55,7 +77,7 @@ wrap-pos m = ≈-mod m
 
 -- a negative number's angle and that of its size make whole turns
 pub wrap-negsuc : (m : ℕ) → wrap (negsuc m) + suc m ≈ 0
-wrap-negsuc m = record { turned = omega arith }
+wrap-negsuc m = record { alike = omega arith }
 
 pub wrap-neg : (z : ℤ) → wrap (negℤ z) + wrap z ≈ 0
 wrap-neg (pos zero) = ≈-refl

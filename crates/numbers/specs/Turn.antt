@@ -6,7 +6,7 @@ use lib.IntN.{ℤ, pos, negsuc, negℤ}
 -- the same angle
 infix 50 _≈_
 pub record _≈_ (a b : ℕ) : Type 0 where
-  pub turned : a % 65536 ≡ b % 65536
+  pub alike : a % 65536 ≡ b % 65536
 
 -- "the first .. minus the second, wrapped"
 abbrev pub difference : ℕ → ℕ → ℕ

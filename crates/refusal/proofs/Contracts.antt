@@ -6,8 +6,8 @@ use mathlib.Core.List.{List, _++_}
 use lib.ListN.{length, drop}
 use Rattle.refusal.specs.declared.Refusal.{Refusal}
 use Rattle.refusal.specs.Checks.{Check, Outcome, passed, refused, outcome, settle}
-use Rattle.refusal.specs.Contract.{Said, values, saidOf, Meets}
-use Rattle.refusal.proofs.Outcomes.{Reaches, reaches}
+use Rattle.refusal.specs.Contract.{Said, values, saidOf, Says, Meets}
+use Rattle.refusal.proofs.Outcomes.{Reaches, reaches, then-refused, then-passed, both-pass}
 
 -- no two answers say the same
 abbrev pub Distinct : {Answer : Type 0} → (Answer → Said) → Type 0
@@ -40,9 +40,29 @@ all-passed cs e h = rw (reaches cs passed h) (ap values e)
 pub said-refused : (o : Outcome) (vs : List ℕ) (r : Refusal) → o ≡ refused r → saidOf r ≡ settle o saidOf (values vs)
 said-refused o vs r e = rw e
 
+-- ---- an operation's answer, whatever is lent
+
+module _ {Answer : Type 0} (said : Answer → Said) (o : Outcome) (vs : List ℕ) (a : Answer) (s : Says said o vs a) where
+  -- it answers values: they are the contract's, and every check passed
+  pub answers-values : (ws : List ℕ) → said a ≡ values ws → (o ≡ passed) × (ws ≡ vs)
+  answers-values ws e = says-values o vs ws (sym e ∙ s)
+
+  -- it refuses: so does the first check that holds
+  pub answers-refusal : (r : Refusal) → said a ≡ saidOf r → o ≡ refused r
+  answers-refusal r e = says-refused o vs r (sym e ∙ s)
+
+  -- and the other way round
+  pub passed-values : o ≡ passed → said a ≡ values vs
+  passed-values e = rw e at s
+
+  pub refused-refusal : (r : Refusal) → o ≡ refused r → said a ≡ saidOf r
+  refused-refusal r e = rw e at s
+
 -- 01, "no second answer would satisfy it", of an operation that is lent no slice
 pub one-said : {Answer : Type 0} {said : Answer → Said} {s : Said} → Distinct said → (a b : Answer) → said a ≡ s → said b ≡ s → a ≡ b
 one-said d a b p q = d a b (p ∙ sym q)
+
+-- ---- an operation that is lent a slice
 
 module _ {Answer Entry : Type 0} (said : Answer → Said) (o : Outcome) (vs : List ℕ) (result before : List Entry) where
   -- 01, "no second answer would satisfy it", nor any second content of the lent slice
@@ -57,9 +77,32 @@ module _ {Answer Entry : Type 0} (said : Answer → Said) (o : Outcome) (vs : Li
   pub when-passed : (a : Answer) (x : List Entry) → o ≡ passed → Meets said o vs result before a x → (said a ≡ values vs) × (x ≡ result ++ drop (length result) before)
   when-passed a x e m = (rw e at (m .says), rw e at (m .leaves))
 
+  -- what a caller knows: it answers values, and the slice begins with the result; or it refuses, and the slice is as it was
+  pub meets-values : (a : Answer) (x : List Entry) → Meets said o vs result before a x → (ws : List ℕ) → said a ≡ values ws → (o ≡ passed) × (ws ≡ vs) × (x ≡ result ++ drop (length result) before)
+  meets-values a x m ws e =
+      let v = answers-values said o vs a (m .says) ws e in
+      (v .0, v .1, when-passed a x (v .0) m .1)
+
+  pub meets-refusal : (a : Answer) (x : List Entry) → Meets said o vs result before a x → (r : Refusal) → said a ≡ saidOf r → (o ≡ refused r) × (x ≡ before)
+  meets-refusal a x m r e =
+      let p = answers-refusal said o vs a (m .says) r e in
+      (p, when-refused a x r p m .1)
+
   -- what a function shows where it refuses, and where it answers
   pub meets-refused : (a : Answer) (r : Refusal) → said a ≡ saidOf r → o ≡ refused r → Meets said o vs result before a before
   meets-refused a r e p = rw p (record { says = e; leaves = refl })
 
   pub meets-passed : (a : Answer) (x : List Entry) → said a ≡ values vs → o ≡ passed → x ≡ result ++ drop (length result) before → Meets said o vs result before a x
   meets-passed a x e p q = rw p (record { says = e; leaves = q })
+
+-- the same where one list of checks comes after another: the first refuses, or it passes and the second decides
+module _ {Answer Entry : Type 0} (said : Answer → Said) (cs ds : List Check) (vs : List ℕ) (result before : List Entry) where
+  pub first-refuses : (a : Answer) (r : Refusal) → said a ≡ saidOf r → outcome cs ≡ refused r → Meets said (outcome (cs ++ ds)) vs result before a before
+  first-refuses a r e o = meets-refused said (outcome (cs ++ ds)) vs result before a r e (then-refused cs ds r o)
+
+  module _ (p : outcome cs ≡ passed) where
+    pub second-refuses : (a : Answer) (r : Refusal) → said a ≡ saidOf r → outcome ds ≡ refused r → Meets said (outcome (cs ++ ds)) vs result before a before
+    second-refuses a r e o = meets-refused said (outcome (cs ++ ds)) vs result before a r e (then-passed cs ds p ∙ o)
+
+    pub both-answer : (a : Answer) (x : List Entry) → said a ≡ values vs → outcome ds ≡ passed → x ≡ result ++ drop (length result) before → Meets said (outcome (cs ++ ds)) vs result before a x
+    both-answer a x e o q = meets-passed said (outcome (cs ++ ds)) vs result before a x e (both-pass cs ds p o) q

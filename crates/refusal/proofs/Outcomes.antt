@@ -1,4 +1,4 @@
--- How a function shows what its checks come to: by going down the list, each test as a fact of numbers.
+-- What a list of checks comes to: how a function shows it, going down the list with each test as a fact of numbers; and what follows from it for callers.
 use Prim.Native.Nat.{ℕ}
 use native.Mathlib.Omega.{arith}
 use mathlib.Core.Path.{_≡_, refl, sym, ap, _∙_}
@@ -32,7 +32,21 @@ reaches [] o e = rw e
 reaches (c ∷ cs) o (inl h) = rw (holds-true (c .when) (h .0), h .1)
 reaches (c ∷ cs) o (inr h) = rw (holds-false (c .when) (h .0)) (reaches cs o (h .1))
 
--- one list after another: the second counts where the first passed
+-- ---- what an outcome is
+
+pub either : (o : Outcome) → (o ≡ passed) ⊎ ((r : Refusal) × (o ≡ refused r))
+either passed = inl refl
+either (refused r) = inr (r, refl)
+
+pub not-both : {o : Outcome} {r : Refusal} → o ≡ passed → o ≡ refused r → ⊥
+not-both p q = let z : _≡_ {A = ℕ} 0 1 = cc in omega arith
+
+pub one-refusal : {o : Outcome} {r s : Refusal} → o ≡ refused r → o ≡ refused s → r ≡ s
+one-refusal p q = cc
+
+-- ---- one list after another
+
+-- the second counts where the first passed
 pub outcome-append : (xs ys : List Check) → outcome (xs ++ ys) ≡ settle (outcome xs) refused (outcome ys)
 unfolding outcome
 outcome-append [] ys = refl
@@ -42,16 +56,28 @@ outcome-append (c ∷ cs) ys = first (holds (c .when)) (outcome-append cs ys)
     first true e = refl
     first false e = e
 
-pub then-refused : (xs ys : List Check) (r : Refusal) → outcome xs ≡ refused r → outcome (xs ++ ys) ≡ refused r
-then-refused xs ys r e = outcome-append xs ys ∙ ap (λ o. settle o refused (outcome ys)) e
+module _ (xs ys : List Check) where
+  pub then-refused : (r : Refusal) → outcome xs ≡ refused r → outcome (xs ++ ys) ≡ refused r
+  then-refused r e = outcome-append xs ys ∙ ap (λ o. settle o refused (outcome ys)) e
 
-pub then-passed : (xs ys : List Check) → outcome xs ≡ passed → outcome (xs ++ ys) ≡ outcome ys
-then-passed xs ys e = outcome-append xs ys ∙ ap (λ o. settle o refused (outcome ys)) e
+  pub then-passed : outcome xs ≡ passed → outcome (xs ++ ys) ≡ outcome ys
+  then-passed e = outcome-append xs ys ∙ ap (λ o. settle o refused (outcome ys)) e
 
--- where a longer list passes, so does its front
-pub front-passes : (xs ys : List Check) → outcome (xs ++ ys) ≡ passed → outcome xs ≡ passed
-front-passes xs ys e = by (outcome xs) (sym (outcome-append xs ys) ∙ e)
-  where
-    by : (o : Outcome) → settle o refused (outcome ys) ≡ passed → o ≡ passed
-    by passed p = refl
-    by (refused r) p = let z : _≡_ {A = ℕ} 0 1 = cc in absurd (omega arith)
+  -- both pass exactly where each does
+  pub both-pass : outcome xs ≡ passed → outcome ys ≡ passed → outcome (xs ++ ys) ≡ passed
+  both-pass p q = then-passed p ∙ q
+
+  pub parts-pass : outcome (xs ++ ys) ≡ passed → (outcome xs ≡ passed) × (outcome ys ≡ passed)
+  parts-pass e = by (either (outcome xs))
+    where
+      by : (outcome xs ≡ passed) ⊎ ((r : Refusal) × (outcome xs ≡ refused r)) → (outcome xs ≡ passed) × (outcome ys ≡ passed)
+      by (inl p) = (p, sym (then-passed p) ∙ e)
+      by (inr (r, p)) = absurd (not-both e (then-refused r p))
+
+  -- a refusal is the first's, or the second's where the first passed
+  pub part-refuses : (r : Refusal) → outcome (xs ++ ys) ≡ refused r → (outcome xs ≡ refused r) ⊎ ((outcome xs ≡ passed) × (outcome ys ≡ refused r))
+  part-refuses r e = by (either (outcome xs))
+    where
+      by : (outcome xs ≡ passed) ⊎ ((s : Refusal) × (outcome xs ≡ refused s)) → (outcome xs ≡ refused r) ⊎ ((outcome xs ≡ passed) × (outcome ys ≡ refused r))
+      by (inl p) = inr (p, sym (then-passed p) ∙ e)
+      by (inr (s, p)) = inl (p ∙ sym (then-refused s p) ∙ e)

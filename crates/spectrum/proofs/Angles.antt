@@ -42,5 +42,5 @@ module _ (n m : ℕ) (small : n ≤ 14) (h : m ≤ 2 ^ n) where
   -- "giving a negative coefficient the angle of its size" is a shortcut that sinks a bid: its angle is a turn less that
   pub angle-negative : 0 < m → angle n (negℤ (pos m)) ≡ 65536 - m * 2 ^ (14 - n)
   angle-negative p =
-      let o = angle-opposite n (pos m) .turned in
+      let o = angle-opposite n (pos m) .alike in
       omega (arith, o, quarter, angle-positive, mul-pos p (pow-pos (14 - n)), wrap-below (negℤ (pos m) *ℤ pos (2 ^ (14 - n))))

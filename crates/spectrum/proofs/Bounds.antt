@@ -12,7 +12,7 @@ use Rattle.numbers.specs.Bits.{dot}
 use Rattle.numbers.specs.Sums.{sumℤ}
 use Rattle.numbers.specs.Turn.{flip}
 use Rattle.numbers.proofs.Integers.{natAbs-add, natAbs-flip}
-use Rattle.spectrum.specs.Transform.{hadamard, entry, Tame, Paired}
+use Rattle.spectrum.specs.Working.{hadamard, entry, Tame, Paired}
 use Rattle.spectrum.proofs.Halves.{halves, first-half, second-half, later}
 
 natAbs-sum : (n b : ℕ) (f : ℕ → ℤ) → ((x : ℕ) → natAbs (f x) ≤ b) → natAbs (sumℤ n f) ≤ n * b

@@ -14,7 +14,7 @@ use Rattle.numbers.proofs.Sums.{ℤ-adds, sumOf-ext, sumOf-map, sumOf-split}
 use Rattle.numbers.proofs.Lists.{length-list, getD-list, is-list, list-ext, list-split}
 use Rattle.numbers.proofs.Integers.{flip-mod}
 use Rattle.numbers.proofs.Parity.{dot-low-high, dot-high-low, dot-high-high, dot-none}
-use Rattle.spectrum.specs.Transform.{hadamard, entry, transformed, mixed}
+use Rattle.spectrum.specs.Working.{hadamard, entry, transformed, sumsAndDifferences}
 
 -- the second half of a row
 abbrev pub later : ℕ → (ℕ → ℤ) → ℕ → ℤ
@@ -87,8 +87,8 @@ module _ (n : ℕ) (v : List ℤ) where
       ∙ hadamard-ext n (entry (drop (2 ^ n) v)) (later n (entry v)) k (λ x l. getD-drop (2 ^ n) v x (pos 0))
 
   -- "two halves .., each transformed the same way, then added and subtracted"
-  pub by-halves : mixed (2 ^ n) halves ≡ transformed (suc n) v
-  unfolding transformed mixed
+  pub by-halves : sumsAndDifferences (2 ^ n) halves ≡ transformed (suc n) v
+  unfolding transformed sumsAndDifferences
   by-halves =
       ap₂ _++_
       (list-ext (2 ^ n) (λ i. entry halves i +ℤ entry halves (2 ^ n + i)) (hadamard (suc n) (entry v))

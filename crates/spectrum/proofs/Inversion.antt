@@ -12,7 +12,7 @@ use Rattle.numbers.proofs.Sums.{ℤ-adds, sumOf-ext, sumOf-map, sumOf-plus}
 use Rattle.numbers.proofs.Integers.{flip-plus, flip-neg, sum-and-difference, difference-of-both, multiple-plus, once}
 use Rattle.numbers.proofs.Parity.{dot-comm, dot-none}
 use Rattle.spectrum.specs.Spectrum.{coefficient}
-use Rattle.spectrum.specs.Transform.{hadamard}
+use Rattle.spectrum.specs.Working.{hadamard}
 use Rattle.spectrum.proofs.Halves.{later, hadamard-ext, hadamard-sum, hadamard-difference}
 use Rattle.spectrum.proofs.Spectra.{sign, hadamard-sign}
 

@@ -1,6 +1,7 @@
+pub mod Callers
 pub mod Words
 pub mod Halves
-pub mod Mixing
+pub mod Adding
 pub mod Bounds
 pub mod Fours
 pub mod Recursion

@@ -7,9 +7,9 @@ use lib.ListN.{length, take, drop, length-append, length-drop}
 use lib.Seq.{length-take-le}
 use lib.Pow.{pow-pos}
 use lib.IntN.{ℤ}
-use borrow.Rule.Slice.PartMut.{putMid, same-len-mid}
-use Rattle.numbers.proofs.Parts.{second-part, both-parts, half-fits, row-long}
-use Rattle.spectrum.specs.Transform.{transformed, mixed, Tame, Paired}
+use borrow.Rule.Slice.PartMut.{putMid}
+use Rattle.numbers.proofs.Parts.{second-part, both-parts, half-fits}
+use Rattle.spectrum.specs.Working.{transformed, sumsAndDifferences, Tame, Paired}
 use Rattle.spectrum.proofs.Halves.{halves, by-halves, length-transformed, transformed-one}
 use Rattle.spectrum.proofs.Bounds.{half-bits, tame-first, tame-second, halves-paired}
 
@@ -17,6 +17,10 @@ use Rattle.spectrum.proofs.Bounds.{half-bits, tame-first, tame-second, 
 pub one-entry : (v : List ℤ) → length v / 2 ≤ 0 → (n : ℕ) → length v ≡ 2 ^ n → v ≡ transformed n v
 one-entry v h zero e = sym (transformed-one v e)
 one-entry v h (suc m) e = absurd (omega (arith, pow-pos m))
+
+-- a transformed row is as long as it was
+pub transform-long : (v u : List ℤ) → Tame v → ((n : ℕ) → length v ≡ 2 ^ n → u ≡ transformed n v) → length u ≡ length v
+transform-long v u t h = ap length (h (t .bits) (t .long)) ∙ length-transformed (t .bits) v ∙ sym (t .long)
 
 module _ (v : List ℤ) (half : ℕ) (d : half ≡ length v / 2) (p : 0 < half) where
   -- the first call may be made
@@ -53,9 +57,9 @@ module _ (v : List ℤ) (half : ℕ) (d : half ≡ length v / 2) (p : 0 < half) 
       unfolding halves
       length-halves m = length-append (transformed m (take (2 ^ m) v)) (transformed m (drop (2 ^ m) v)) ∙ ap₂ _+_ (length-transformed m (take (2 ^ m) v)) (length-transformed m (drop (2 ^ m) v))
 
-      -- the two may be mixed
-      pub mix-call : Tame v → (half + half ≡ length joined) × Paired half joined
-      mix-call t = by (half-bits (t .bits) (length v) half (t .long) d p)
+      -- the two may be added and subtracted
+      pub add-call : Tame v → (half + half ≡ length joined) × Paired half joined
+      add-call t = by (half-bits (t .bits) (length v) half (t .long) d p)
         where
           by : (m : ℕ) × (t .bits ≡ suc m) × (half ≡ 2 ^ m) → (half + half ≡ length joined) × Paired half joined
           by (m, e, h) =
@@ -63,12 +67,9 @@ module _ (v : List ℤ) (half : ℕ) (d : half ≡ length v / 2) (p : 0 < half) 
               let j = joined-halves m l h in
               (ap (λ (k : ℕ). k + k) h ∙ sym (ap length j ∙ length-halves m), subst₂ Paired (sym h) (sym j) (halves-paired v m l t))
 
-      pub joined-long : length b ≡ length (take (length (a ++ drop half v) - half) (drop half (a ++ drop half v))) → length joined ≡ length v
-      joined-long k = same-len-mid half (length (a ++ drop half v) - half) (a ++ drop half v) b k ∙ row-long v half d p a la
-
       -- and what that gives is the transform
-      pub mix-gives : (u : List ℤ) → u ≡ mixed half joined → (n : ℕ) → length v ≡ 2 ^ n → u ≡ transformed n v
-      mix-gives u e n l = by (half-bits n (length v) half l d p)
+      pub add-gives : (u : List ℤ) → u ≡ sumsAndDifferences half joined → (n : ℕ) → length v ≡ 2 ^ n → u ≡ transformed n v
+      add-gives u e n l = by (half-bits n (length v) half l d p)
         where
           by : (m : ℕ) × (n ≡ suc m) × (half ≡ 2 ^ m) → u ≡ transformed n v
-          by (m, q, h) = e ∙ ap₂ mixed h (joined-halves m (l ∙ ap (λ (k : ℕ). 2 ^ k) q) h) ∙ by-halves m v ∙ ap (λ (k : ℕ). transformed k v) (sym q)
+          by (m, q, h) = e ∙ ap₂ sumsAndDifferences h (joined-halves m (l ∙ ap (λ (k : ℕ). 2 ^ k) q) h) ∙ by-halves m v ∙ ap (λ (k : ℕ). transformed k v) (sym q)

@@ -17,7 +17,8 @@ use Rattle.numbers.proofs.Lists.{length-list, getD-list, list-ext}
 use Rattle.numbers.proofs.Integers.{flip-add, natAbs-flip}
 use Rattle.table.specs.Table.{valueAt}
 use Rattle.spectrum.specs.Spectrum.{coefficient, spectrumOf}
-use Rattle.spectrum.specs.Transform.{hadamard, entry, transformed, Tame}
+use Rattle.spectrum.specs.Working.{hadamard, entry, transformed, Tame}
+use Rattle.spectrum.proofs.Callers.{length-spectrum}
 use Rattle.spectrum.proofs.Halves.{hadamard-ext}
 
 -- +1, or -1 where f(x) is 1
@@ -28,10 +29,6 @@ pub hadamard-sign : (n : ℕ) (f : ℕ → ℕ) (k : ℕ) → hadamard n (sign f
 hadamard-sign n f k =
     sumOf-ext (pos 0) _+ℤ_ (2 ^ n) (λ x. flip (dot k x) (sign f x)) (λ x. flip (f x + dot k x) (pos 1))
     (λ x h. sym (ap (λ (m : ℕ). flip m (pos 1)) (add-comm (f x) (dot k x)) ∙ flip-add (dot k x) (f x) (pos 1)))
-
-pub length-spectrum : (n : ℕ) (t : List ℕ) → length (spectrumOf n t) ≡ 2 ^ n
-unfolding spectrumOf
-length-spectrum n t = length-list (2 ^ n) (coefficient n (valueAt t))
 
 -- the transform of the signs is the spectrum
 pub transformed-signs : (n : ℕ) (t : List ℕ) → transformed n (list (2 ^ n) (sign (valueAt t))) ≡ spectrumOf n t
@@ -47,13 +44,19 @@ sign-size m f i = by (decLt i m)
     by (yes h) = omega (arith, ap natAbs (getD-list m (sign f) i (pos 0) h), natAbs-flip (f i) (pos 1))
     by (no h) = omega (arith, ap natAbs (List·getD-eq-default (list m (sign f)) (pos 0) {n = i} (omega (arith, length-list m (sign f)))))
 
-module _ (n : ℕ) (t : List ℕ) (out signs : List ℤ) (entries : ℕ) (small : n ≤ 8) (e : entries ≡ 2 ^ n) (fits : entries ≤ length out)
-    (s : signs ≡ list (length (take entries out)) (sign (valueAt t))) where
+-- the signs stand at the front of a slice that has room
+pub record Signs (n : ℕ) (t : List ℕ) (out signs : List ℤ) (entries : ℕ) : Type 0 where
+  pub small : n ≤ 8
+  pub count : entries ≡ 2 ^ n
+  pub fits : entries ≤ length out
+  pub each : signs ≡ list (length (take entries out)) (sign (valueAt t))
+
+module _ {n : ℕ} {t : List ℕ} {out signs : List ℤ} {entries : ℕ} (s : Signs n t out signs entries) where
   are-signs : signs ≡ list (2 ^ n) (sign (valueAt t))
-  are-signs = s ∙ ap (λ (m : ℕ). list m (sign (valueAt t))) (length-take-le entries out fits ∙ e)
+  are-signs = s .each ∙ ap (λ (m : ℕ). list m (sign (valueAt t))) (length-take-le entries out (s .fits) ∙ s .count)
 
   signs-long : length signs ≡ entries
-  signs-long = ap length are-signs ∙ length-list (2 ^ n) (sign (valueAt t)) ∙ sym e
+  signs-long = ap length are-signs ∙ length-list (2 ^ n) (sign (valueAt t)) ∙ sym (s .count)
 
   first-part : take entries (signs ++ drop entries out) ≡ list (2 ^ n) (sign (valueAt t))
   first-part = take-at signs (drop entries out) entries signs-long ∙ are-signs
@@ -64,12 +67,12 @@ module _ (n : ℕ) (t : List ℕ) (out signs : List ℤ) (entries : ℕ) (small 
   pub signs-tame : Tame (take entries (signs ++ drop entries out))
   signs-tame =
       let l = length-list (2 ^ n) (sign (valueAt t)) in
-      let b : 2 ^ n ≤ 2 ^ 8 = pow-mono {i = n} {j = 8} small in
+      let b : 2 ^ n ≤ 2 ^ 8 = pow-mono {i = n} {j = 8} (s .small) in
       subst Tame (sym first-part) (record { bits = n; long = l; most = 1; each = sign-size (2 ^ n) (valueAt t); all = omega arith })
 
   -- what the call leaves: the spectrum, then what stood there
   pub leaves-spectrum : (part : List ℤ) → ((m : ℕ) → length (take entries (signs ++ drop entries out)) ≡ 2 ^ m → part ≡ transformed m (take entries (signs ++ drop entries out)))
       → part ++ drop entries (signs ++ drop entries out) ≡ spectrumOf n t ++ drop (length (spectrumOf n t)) out
   leaves-spectrum part h =
-      ap₂ _++_ (h n (sym part-long ∙ e) ∙ ap (transformed n) first-part ∙ transformed-signs n t)
-      (drop-at signs (drop entries out) entries signs-long ∙ ap (λ (m : ℕ). drop m out) (e ∙ sym (length-spectrum n t)))
+      ap₂ _++_ (h n (sym part-long ∙ s .count) ∙ ap (transformed n) first-part ∙ transformed-signs n t)
+      (drop-at signs (drop entries out) entries signs-long ∙ ap (λ (m : ℕ). drop m out) (s .count ∙ sym (length-spectrum n t)))

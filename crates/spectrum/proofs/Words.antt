@@ -10,7 +10,7 @@ use lib.IntN.{ℤ, pos, negsuc, negℤ, natAbs, _+ℤ_, _-ℤ_}
 use mir.Syntax.{w32}
 use mir.Val.{SFits, toZ, ofZ}
 use mir.Facts.{toZ-ofZ}
-use Rattle.spectrum.specs.Transform.{entry}
+use Rattle.spectrum.specs.Working.{entry, sumAndDifference}
 use Rattle.numbers.specs.Turn.{flip}
 use Rattle.numbers.proofs.Integers.{natAbs-add, natAbs-neg, natAbs-flip}
 
@@ -49,5 +49,5 @@ module _ (v : List ℤ) (i j : ℕ) (h : natAbs (entry v i) + natAbs (entry v j)
 
   -- both stored, as they are
   pub pair-stays : set (set v i (toZ w32 (ofZ w32 (toZ w32 (ofZ w32 (entry v i)) +ℤ toZ w32 (ofZ w32 (entry v j)))))) j (toZ w32 (ofZ w32 (toZ w32 (ofZ w32 (entry v i)) -ℤ toZ w32 (ofZ w32 (entry v j)))))
-      ≡ set (set v i (entry v i +ℤ entry v j)) j (entry v i -ℤ entry v j)
+      ≡ sumAndDifference i j v
   pair-stays = rw (stays-first, stays-second, stays (entry v i +ℤ entry v j) small-sum, stays (entry v i -ℤ entry v j) small-difference)

@@ -1,2 +1,2 @@
 pub mod Spectrum
-pub mod Transform
+pub mod Working

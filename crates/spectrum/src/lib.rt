@@ -3,13 +3,13 @@ use refusal::Refusal;
 use table::Checked;
 ghost use mathlib.Core.Path.{_≡_};
 ghost use Prim.Native.Nat.{ℕ, _^_, _+_, _<_, _≤_};
-ghost use lib.ListN.{length, set};
-ghost use lib.IntN.{pos, natAbs, _+ℤ_, _-ℤ_};
+ghost use lib.ListN.{length};
+ghost use lib.IntN.{pos, natAbs};
 ghost use Rattle.numbers.specs.Sums.{list};
 ghost use Rattle.numbers.specs.Turn.{flip};
 ghost use Rattle.table.specs.Table.{valueAt};
 ghost use Rattle.spectrum.specs.Spectrum.{Transforms};
-ghost use Rattle.spectrum.specs.Transform.{entry, transformed, mixed, Tame, Paired};
+ghost use Rattle.spectrum.specs.Working.{entry, transformed, sumAndDifference, sumsAndDifferences, Tame, Paired};
 
 pub enum Transformed {
     Entries(usize),
@@ -34,15 +34,12 @@ pub fn spectrum(n: u8, table: &[u8], out: &mut [i32]) -> Transformed
 
 // Entry x becomes +1, or -1 where f(x) is 1.
 fn write_signs(table: &[u8], out: &mut [i32])
-    requires { ⌜ length (now out) ≤ 256 ⌝ }
     ensures { λ _. ⌜ now (out .exit) ≡ list (length (now (out .entry))) (λ x. flip (valueAt (now (table .entry)) x) (pos 1)) ⌝ }
 {
-    let mut values = [0u8; 256];
-    table::values(table, &mut values);
     let entries = out.len();
     let mut x: usize = 0;
     while x < entries {
-        out[x] = sign(values[x]);
+        out[x] = sign(table::value(table, x));
         x += 1;
     }
 }
@@ -59,67 +56,48 @@ fn transform(v: &mut [i32])
     requires { ⌜ Tame (now v) ⌝ }
     ensures { λ _. ⌜ ((n : ℕ) → length (now (v .entry)) ≡ 2 ^ n → now (v .exit) ≡ transformed n (now (v .entry))) ⌝ }
 {
-    if v.len() == 16 {
-        sixteen(v);
+    if v.len() == 4 {
+        four(v);
         return;
     }
     let half = v.len() / 2;
     if 0 < half {
         transform(&mut v[..half]);
         transform(&mut v[half..]);
-        mix(v, half);
+        add_and_subtract(v, half);
     }
 }
 
-// H_4, and H_3 and H_2 below, the same way without the recursion: the compiler makes straight code of them.
-fn sixteen(v: &mut [i32])
-    requires { ⌜ length (now v) ≡ 16 ⌝ }
-    requires { ⌜ Tame (now v) ⌝ }
-    ensures { λ _. ⌜ ((n : ℕ) → length (now (v .entry)) ≡ 2 ^ n → now (v .exit) ≡ transformed n (now (v .entry))) ⌝ }
-{
-    eight(&mut v[..8]);
-    eight(&mut v[8..]);
-    mix(v, 8)
-}
-
-fn eight(v: &mut [i32])
-    requires { ⌜ length (now v) ≡ 8 ⌝ }
-    requires { ⌜ Tame (now v) ⌝ }
-    ensures { λ _. ⌜ ((n : ℕ) → length (now (v .entry)) ≡ 2 ^ n → now (v .exit) ≡ transformed n (now (v .entry))) ⌝ }
-{
-    four(&mut v[..4]);
-    four(&mut v[4..]);
-    mix(v, 4)
-}
-
+// H_2, straight: the base of the recursion.
 fn four(v: &mut [i32])
     requires { ⌜ length (now v) ≡ 4 ⌝ }
     requires { ⌜ Tame (now v) ⌝ }
     ensures { λ _. ⌜ ((n : ℕ) → length (now (v .entry)) ≡ 2 ^ n → now (v .exit) ≡ transformed n (now (v .entry))) ⌝ }
 {
-    mix_pair(v, 0, 1);
-    mix_pair(v, 2, 3);
-    mix(v, 2)
+    add_and_subtract_two(v, 0, 1);
+    add_and_subtract_two(v, 2, 3);
+    add_and_subtract(v, 2)
 }
 
 // The sums of the halves' entries into the first half, their differences into the second.
-fn mix(v: &mut [i32], half: usize)
+fn add_and_subtract(v: &mut [i32], half: usize)
     requires { ⌜ half + half ≡ length (now v) ⌝ }
     requires { ⌜ Paired half (now v) ⌝ }
-    ensures { λ _. ⌜ now (v .exit) ≡ mixed half (now (v .entry)) ⌝ }
+    ensures { λ _. ⌜ now (v .exit) ≡ sumsAndDifferences half (now (v .entry)) ⌝ }
 {
     let mut i: usize = 0;
     while i < half {
-        mix_pair(v, i, half + i);
+        add_and_subtract_two(v, i, half + i);
         i += 1;
     }
 }
 
-fn mix_pair(v: &mut [i32], i: usize, j: usize)
+// The same of two entries.
+fn add_and_subtract_two(v: &mut [i32], i: usize, j: usize)
     requires { ⌜ i < length (now v) ⌝ }
     requires { ⌜ j < length (now v) ⌝ }
     requires { ⌜ natAbs (entry (now v) i) + natAbs (entry (now v) j) ≤ 2147483647 ⌝ }
-    ensures { λ _. ⌜ now (v .exit) ≡ set (set (now (v .entry)) i (entry (now (v .entry)) i +ℤ entry (now (v .entry)) j)) j (entry (now (v .entry)) i -ℤ entry (now (v .entry)) j) ⌝ }
+    ensures { λ _. ⌜ now (v .exit) ≡ sumAndDifference i j (now (v .entry)) ⌝ }
 {
     let a = v[i];
     let b = v[j];

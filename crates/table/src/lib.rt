@@ -1,10 +1,9 @@
 // Document 01, "Numbers and conventions": packed truth tables, and refusals 1 to 3.
 use refusal::Refusal;
 ghost use mathlib.Core.Path.{_≡_};
-ghost use Prim.Native.Nat.{_^_, _+_, _-_, _*_, _≤_, _<_, min};
-ghost use lib.ListN.{length, getD, take};
+ghost use Prim.Native.Nat.{_^_, _-_, _≤_, _<_, min};
+ghost use lib.ListN.{getD};
 ghost use Rattle.numbers.specs.Bits.{bit};
-ghost use Rattle.numbers.specs.Sums.{list};
 ghost use Rattle.table.specs.Table.{valueAt, Checks};
 
 pub enum Checked {
@@ -37,35 +36,6 @@ pub fn value(table: &[u8], x: usize) -> u8
     ensures { λ r. ⌜ r ≡ valueAt (now (table .entry)) x ⌝ }
 {
     bit_of(byte_at(table, x / 8), x % 8)
-}
-
-// f(0), f(1) and so on, to every entry of out.
-pub fn values(table: &[u8], out: &mut [u8])
-    ensures { λ _. ⌜ now (out .exit) ≡ list (length (now (out .entry))) (valueAt (now (table .entry))) ⌝ }
-{
-    let whole = out.len() / 8;
-    let rest = out.len() % 8;
-    let mut k: usize = 0;
-    while k < whole {
-        put_byte(table, k, 8, out);
-        k += 1;
-    }
-    put_byte(table, whole, rest, out)
-}
-
-// The first values of byte k, behind those of the bytes before it.
-fn put_byte(table: &[u8], k: usize, count: usize, out: &mut [u8])
-    requires { ⌜ count ≤ 8 ⌝ }
-    requires { ⌜ 8 * k + count ≤ length (now out) ⌝ }
-    requires { ⌜ take (8 * k) (now out) ≡ list (8 * k) (valueAt (now table)) ⌝ }
-    ensures { λ _. ⌜ take (8 * k + count) (now (out .exit)) ≡ list (8 * k + count) (valueAt (now (table .entry))) ⌝ }
-{
-    let byte = byte_at(table, k);
-    let mut i: usize = 0;
-    while i < count {
-        out[8 * k + i] = bit_of(byte, i);
-        i += 1;
-    }
 }
 
 fn bit_of(byte: u8, place: usize) -> u8

@@ -36,8 +36,11 @@ by-requires-3 c κs = search needs
 returns-3 : tie.Need-returns-3
 returns-3 c = refused-by _ _ (c .by3 .ensures) (inr (omega arith, inr (omega arith, inl (omega arith, refl))))
 
+abbrev start : tie.After-shared-slice-known2 → tie.Start
+start c = c .before .before .before .before .before .before
+
 shared-slice-read-first : tie.Need-shared-slice-read-first
-shared-slice-read-first c = omega (arith, pow-pos (c .before .before .before .before .before .before .args .n - 3))
+shared-slice-read-first c = omega (arith, pow-pos (start c .args .n - 3))
 
 used-requires : tie.Need-used-requires
 used-requires c κs = search needs

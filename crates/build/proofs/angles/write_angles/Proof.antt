@@ -49,11 +49,15 @@ shared-slice-copy-out-wrapped c = omega arith
 
 wrapped-requires : tie.Need-wrapped-requires Inv-loop μ-loop
 wrapped-requires c κs =
-    let s = c .before .before .before .before .before in
-    read-small (getD (s .args .coefficients .now) (c .before .before .loop .k) (pos 0)) (s .pre .1 .1 (c .before .before .loop .k))
+    let at = c .before .before in
+    let s = at .before .before .before in
+    read-small (getD (s .args .coefficients .now) (at .loop .k) (pos 0)) (s .pre .1 .1 (at .loop .k))
+
+abbrev loop : tie.After-wrapped Inv-loop μ-loop → tie.At-loop Inv-loop μ-loop
+loop c = c .before .before .before
 
 scaled-requires : tie.Need-scaled-requires Inv-loop μ-loop
-scaled-requires c κs = omega (arith, scale-small (c .before .before .before .before))
+scaled-requires c κs = omega (arith, scale-small (loop c .before))
 
 mul-out : tie.Need-mul-out Inv-loop μ-loop
 mul-out c = omega arith
@@ -69,8 +73,8 @@ loop-less c = omega arith
 
 loop-again : tie.Need-loop-again Inv-loop μ-loop
 loop-again c =
-    let l = c .before .before .before .before .loop in
-    let p = c .before .before .before .before .before in
+    let l = loop (c .before) .loop in
+    let p = loop (c .before) .before in
     let s = p .before .before in
     let z = getD (s .args .coefficients .now) (l .k) (pos 0) in
     let v = scaled-is (s .args .n) z (c .before .wrapped .result) (p .power .result) (c .scaled .result) (s .pre .1 .1 (l .k)) (c .before .wrapped .ensures) (scale-is p) (c .scaled .ensures) in
@@ -81,8 +85,9 @@ same-length c = c .before .loop .inv .1
 
 returns : tie.Need-returns Inv-loop μ-loop
 returns c =
-    let l = c .before .loop in
-    let a = c .before .before .before .before .args in
+    let at = c .before in
+    let l = at .loop in
+    let a = at .before .before .before .args in
     fill-ends (l .k) (angleOf (a .n) (a .coefficients .now)) (a .out .now) (l .out) (omega arith) (l .inv .2)
 
 pub write-angles-spec : {M : Type 1} → statement M

@@ -1,5 +1,5 @@
 -- What the built file is: well formed, of the length that is answered, and its table's oracle.
-use Prim.Native.Nat.{ℕ, zero, suc, _+_, _-_, _*_, _%_, _^_, _<_, _≤_}
+use Prim.Native.Nat.{ℕ, _+_, _-_, _*_, _%_, _^_, _<_, _≤_}
 use native.Mathlib.Omega.{arith}
 use mathlib.Core.Path.{_≡_, ap, _∙_}
 use mathlib.Core.List.{List}
@@ -8,20 +8,22 @@ use lib.Arith.{digits-lt}
 use lib.Pow.{pow-add, pow-mono}
 use Rattle.refusal.specs.Checks.{passed, outcome}
 use Rattle.table.specs.Table.{valueAt}
+use Rattle.spectrum.specs.Spectrum.{theta}
 use Rattle.running.specs.Run.{endFrom, phaseFrom}
 use Rattle.circuit.specs.File.{wiresOf, countOf, gatesOf, fileChecks}
-use Rattle.circuit.proofs.Files.{length-file, wires-written, count-written, list-written, written-passes}
-use Rattle.build.specs.Construction.{construction, builtFile}
-use Rattle.build.proofs.Circuits.{length-construction, sound-construction}
+use Rattle.circuit.proofs.Files.{wires-written, count-written, list-written, written-passes}
+use Rattle.build.specs.Construction.{minus, construction, builtFile}
+use Rattle.build.proofs.Circuits.{length-parts, length-parts-file, sound-construction}
 use Rattle.build.proofs.Oracle.{construction-ends, oracle-phase}
 
 count-is : (n : ℕ) (f : ℕ → ℕ) → 0 < n → length (construction n f) + 2 ≡ 2 ^ (n + 2)
-count-is zero f p = absurd (omega arith)
-count-is (suc m) f p = length-construction m f
+unfolding construction
+count-is n f = length-parts n (theta n f) (λ v. minus (theta n f v))
 
 -- "the file is 2^(n+4) bytes"
 pub built-long : (n : ℕ) (t : List ℕ) → 0 < n → length (builtFile n t) ≡ 2 ^ (n + 4)
-built-long n t p = omega (arith, length-file (n + 1) (construction n (valueAt t)), count-is n (valueAt t) p, pow-add 2 n 2, pow-add 2 n 4)
+unfolding construction
+built-long n t = length-parts-file n (theta n (valueAt t)) (λ v. minus (theta n (valueAt t) v))
 
 module _ (n : ℕ) (t : List ℕ) (p : 0 < n) (small : n ≤ 8) where
   pub few-gates : length (construction n (valueAt t)) ≤ 2048
@@ -48,5 +50,5 @@ module _ (n : ℕ) (t : List ℕ) (p : 0 < n) (small : n ≤ 8) where
       → (endFrom (gatesOf (builtFile n t)) (x + y * 2 ^ n) ≡ x + y * 2 ^ n) × (phaseFrom (gatesOf (builtFile n t)) (x + y * 2 ^ n) ≡ 32768 * valueAt t x * y % 65536)
   built-run x y hx hy = (
     ap (λ gs. endFrom gs (x + y * 2 ^ n)) built-gates ∙ construction-ends n (valueAt t) (x + y * 2 ^ n) (start-below x y hx hy),
-    ap (λ gs. phaseFrom gs (x + y * 2 ^ n)) built-gates ∙ oracle-phase n (valueAt t) x y small hx hy (omega arith) .turned,
+    ap (λ gs. phaseFrom gs (x + y * 2 ^ n)) built-gates ∙ oracle-phase n (valueAt t) x y small hx hy (omega arith) .alike,
   )

@@ -1,7 +1,7 @@
 use borrow.Author.Needs.{needs}
 use Rattle.spectrum.proofs.Words.{sum-fits, difference-fits, pair-stays}
-use Rattle.spectrum.proofs.mix_pair.Statement.{statement}
-use Rattle.spectrum.proofs.mix_pair.Tie as tie
+use Rattle.spectrum.proofs.add_and_subtract_two.Statement.{statement}
+use Rattle.spectrum.proofs.add_and_subtract_two.Tie as tie
 
 mul-a : tie.Need-mul-a
 mul-a c = search needs
@@ -45,8 +45,8 @@ returns c =
     let a = c .before .before .args in
     pair-stays (a .v .now) (a .i) (a .j) (c .before .before .pre .1 .1)
 
-pub mix-pair-spec : {M : Type 1} → statement M
-mix-pair-spec =
+pub add-and-subtract-two-spec : {M : Type 1} → statement M
+add-and-subtract-two-spec =
     tie.close
     (tie.spec
     mul-a
