@@ -2,10 +2,11 @@
 use Prim.Native.Nat.{ℕ, _+_, _*_, _^_, _<_, _≤_}
 use native.Mathlib.Nat.{zero-add}
 use native.Mathlib.Omega.{arith}
-use mathlib.Core.Path.{_≡_, refl, sym, ap, _∙_}
+use mathlib.Core.Path.{_≡_, refl, sym, ap, ap₂, _∙_}
 use mathlib.Core.List.{List, [], _∷_, _++_}
 use lib.ListN.{length, getD, drop}
 use Rattle.numbers.specs.Sums.{sum}
+use Rattle.numbers.proofs.Lists.{length-list}
 use Rattle.numbers.proofs.Sums.{sumOf-ext}
 use Rattle.refusal.specs.declared.Refusal.{Refusal}
 use Rattle.refusal.specs.Names.{refusal, ROOM}
@@ -16,15 +17,18 @@ use Rattle.refusal.proofs.Rooms.{earlier-refused, room-refused, room-enough}
 use Rattle.circuit.specs.Bytes.{putAt, Bytes}
 use Rattle.circuit.specs.Gates.{bytesOf}
 use Rattle.circuit.specs.File.{wiresOf, gatesOf, fileChecks, fileOf, headerBytes}
-use Rattle.running.specs.Run.{nonzero, cnots, score}
-use Rattle.circuit.proofs.Files.{good-file}
+use Rattle.running.specs.Run.{scores, cnots, score}
+use Rattle.circuit.proofs.Files.{good-file, length-file}
 use Rattle.circuit.proofs.Writing.{put-fits, put-put}
 use Rattle.fold.specs.declared.Folded.{Folded}
 use Rattle.fold.specs.declared.Folded.the-variants.{File, Refused}
-use Rattle.fold.specs.Fold.{groupTotal, folded, foldedFile, foldedSays, Folds}
-use Rattle.fold.specs.Totals.{Totals, nonzeros}
+use Rattle.running.specs.Masks.{mostWires, mostMasks}
+use Rattle.running.specs.Groups.{groupTotal, totalsOf}
+use Rattle.running.proofs.Groups.{total-at}
+use Rattle.fold.specs.Fold.{folded, foldedFile, foldedSays, Folds}
+use Rattle.fold.specs.Working.{staying, keptIn, scoreIn}
 use Rattle.fold.proofs.Scores.{score-of-totals, length-folded}
-use Rattle.fold.proofs.Files.{few-gates, length-folded-file}
+use Rattle.fold.proofs.Files.{few-gates}
 
 abbrev foldValues : List ℕ → List ℕ
 foldValues f = length (foldedFile f) ∷ score (gatesOf f) ∷ score (folded (wiresOf f) (gatesOf f)) ∷ []
@@ -42,24 +46,32 @@ module _ (f before : List ℕ) where
     answered h r l b a d p q s after t =
         room-enough foldedSays (fileChecks 0 f) (length (foldedFile f)) (foldValues f) (foldedFile f) before e h r after (ap foldedSays d ∙ (λ i. values (p i ∷ q i ∷ s i ∷ []))) t
 
--- what is known once the totals that are not 0 are counted: how long the folded file will be
-pub record Room (f : List ℕ) (mixing scored : ℕ) : Type 0 where
+-- what is known once the totals are tallied: how long the folded file will be, and what it scores
+pub record Room (f : List ℕ) (mixing stay scored : ℕ) : Type 0 where
   pub after : scored ≡ score (folded (wiresOf f) (gatesOf f))
-  pub kept : mixing + scored ≡ length (folded (wiresOf f) (gatesOf f))
-  pub few : mixing + scored ≤ 2048
-  pub whole : 8 + 4 * (mixing + scored) ≡ length (foldedFile f)
+  pub kept : mixing + stay ≡ length (folded (wiresOf f) (gatesOf f))
+  pub few : mixing + stay ≤ 2048
+  pub whole : 8 + 4 * (mixing + stay) ≡ length (foldedFile f)
 
-pub room : (f : List ℕ) → Bytes f → outcome (fileChecks 0 f) ≡ passed → (ts : List ℕ) (mixing scored : ℕ) → Totals f ts → mixing ≡ cnots (gatesOf f) → scored ≡ nonzeros ts → Room f mixing scored
-room f bytes e ts mixing scored t p q =
-    let w = wiresOf f in
-    let gs = gatesOf f in
-    let long : length ts ≡ 2 ^ 10 = t .long in
-    let s : scored ≡ score (folded w gs) =
-    q ∙ sumOf-ext 0 _+_ (length ts) (λ m. nonzero (getD ts m 0)) (λ m. nonzero (groupTotal w gs m)) (λ m l. ap nonzero (t .each m))
-    ∙ ap (λ (n : ℕ). sum n (λ m. nonzero (groupTotal w gs m))) long ∙ sym (score-of-totals w gs 10 (good-file 0 f e .few)) in
-    let k = length-folded w gs in
-    let l = length-folded-file f in
-    record { after = s; kept = omega arith; few = omega (arith, few-gates 0 f bytes e); whole = omega arith }
+module _ (f : List ℕ) (bytes : Bytes f) (e : outcome (fileChecks 0 f) ≡ passed) (ts : List ℕ) (t : ts ≡ totalsOf f) where
+  -- a sum over the row is one over the groups
+  of-totals : (h : ℕ → ℕ) → sum (length ts) (λ m. h (getD ts m 0)) ≡ sum (2 ^ mostWires) (λ m. h (groupTotal (wiresOf f) (gatesOf f) m))
+  of-totals h =
+      rw t
+      (ap (λ (n : ℕ). sum n (λ m. h (getD (totalsOf f) m 0))) (length-list mostMasks (groupTotal (wiresOf f) (gatesOf f)))
+      ∙ sumOf-ext 0 _+_ mostMasks (λ m. h (getD (totalsOf f) m 0)) (λ m. h (groupTotal (wiresOf f) (gatesOf f) m)) (λ m l. ap h (total-at f (good-file 0 f e .few) m)))
+
+  pub room : (mixing stay scored : ℕ) → mixing ≡ cnots (gatesOf f) → stay ≡ keptIn ts → scored ≡ scoreIn ts → Room f mixing stay scored
+  room mixing stay scored p q r =
+      let few = good-file 0 f e .few in
+      let gs = folded (wiresOf f) (gatesOf f) in
+      let k : mixing + stay ≡ length gs = ap₂ _+_ p (q ∙ of-totals staying) ∙ sym (length-folded (wiresOf f) (gatesOf f) mostWires few) in
+      record {
+        after = r ∙ of-totals scores ∙ sym (score-of-totals (wiresOf f) (gatesOf f) mostWires few);
+        kept = k;
+        few = omega (arith, few-gates 0 f bytes e);
+        whole = ap (λ (n : ℕ). 8 + 4 * n) k ∙ sym (length-file (wiresOf f) gs);
+      }
 
 -- the header, then the gates behind it, are the folded file
 module _ (f before : List ℕ) (fits : length (foldedFile f) ≤ length before) where

@@ -1,5 +1,5 @@
 -- The folded file: well-formed, on the same wires, with the folded gates; the same runs; and folded again it is itself.
-use Prim.Native.Nat.{ℕ, _+_, _*_, _≤_}
+use Prim.Native.Nat.{ℕ, _≤_}
 use native.Mathlib.Omega.{arith}
 use mathlib.Core.Path.{_≡_, ap, ap₂, _∙_}
 use mathlib.Core.List.{List}
@@ -8,15 +8,11 @@ use Rattle.refusal.specs.Checks.{passed, outcome}
 use Rattle.circuit.specs.declared.Gate.{Gate}
 use Rattle.circuit.specs.Gates.{AllSound}
 use Rattle.circuit.specs.File.{wiresOf, gatesOf, fileChecks, fileOf}
-use Rattle.running.specs.Run.{endFrom, phaseFrom, cnots, score}
+use Rattle.running.specs.Run.{endFrom, phaseFrom}
 use Rattle.circuit.specs.Bytes.{Bytes}
-use Rattle.circuit.proofs.Files.{good-file, file-sound, length-gates, wires-written, length-file, list-written, written-passes}
+use Rattle.circuit.proofs.Files.{good-file, file-sound, length-gates, wires-written, list-written, written-passes}
 use Rattle.fold.specs.Fold.{folded, foldedFile, cnotsOf}
 use Rattle.fold.proofs.Folding.{folded-sound, folded-shorter, folded-twice, same-cnots, same-end, same-phase}
-use Rattle.fold.proofs.Scores.{length-folded}
-
-pub length-folded-file : (f : List ℕ) → length (foldedFile f) ≡ 8 + 4 * (cnots (gatesOf f) + score (folded (wiresOf f) (gatesOf f)))
-length-folded-file f = length-file (wiresOf f) (folded (wiresOf f) (gatesOf f)) ∙ ap (λ (n : ℕ). 8 + 4 * n) (length-folded (wiresOf f) (gatesOf f))
 
 pub same-wires : (f : List ℕ) → wiresOf (foldedFile f) ≡ wiresOf f
 same-wires f = wires-written (wiresOf f) (folded (wiresOf f) (gatesOf f))

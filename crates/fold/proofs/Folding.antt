@@ -16,9 +16,10 @@ use Rattle.running.specs.Run.{stepped, endFrom, totalFrom, phaseFrom, cnots}
 use Rattle.running.specs.Masks.{ownMasks, masksAfter, masksFrom, sumMet}
 use Rattle.running.proofs.Masks.{own-below, total-parity}
 use Rattle.running.proofs.Groups.{collect, sum-vanishes}
-use Rattle.fold.specs.Fold.{groupTotal, folded, cnotsOf}
-use Rattle.fold.proofs.Passing.{passed, same-function, ifMet, cnots-passed, sound-passed, length-passed, passed-twice, group-passed}
-use Rattle.fold.proofs.Positions.{folded-passed}
+use Rattle.running.specs.Groups.{groupTotal}
+use Rattle.fold.specs.Fold.{folded, cnotsOf}
+use Rattle.fold.proofs.Remaining.{remains, same-function, ifMet, cnots-remains, sound-remains, length-remains, remains-twice, group-remains}
+use Rattle.fold.proofs.Positions.{folded-remains}
 
 -- only the CNOTs change masks and states
 pub masks-of-cnots : (gs : List Gate) (ms : List ℕ) → masksFrom (cnotsOf gs) ms ≡ masksFrom gs ms
@@ -42,7 +43,7 @@ number-of-cnots (Phase i a ∷ gs) = number-of-cnots gs
 module _ (w : ℕ) (gs : List Gate) where
   -- "CNOTs stay in order", so every mask and every end state is as before
   pub same-cnots : cnotsOf (folded w gs) ≡ cnotsOf gs
-  same-cnots = ap cnotsOf (folded-passed w gs) ∙ cnots-passed (groupTotal w gs) gs (ownMasks w)
+  same-cnots = ap cnotsOf (folded-remains w gs) ∙ cnots-remains (groupTotal w gs) gs (ownMasks w)
 
   pub same-masks : (ms : List ℕ) → masksFrom (folded w gs) ms ≡ masksFrom gs ms
   same-masks ms = sym (masks-of-cnots (folded w gs) ms) ∙ ap (λ (l : List Gate). masksFrom l ms) same-cnots ∙ masks-of-cnots gs ms
@@ -58,10 +59,10 @@ module _ (w : ℕ) (gs : List Gate) where
 
   -- good gates on the same wires, and never more of them
   pub folded-sound : AllSound w gs → AllSound w (folded w gs)
-  folded-sound h = rw (folded-passed w gs) (sound-passed w (groupTotal w gs) gs (ownMasks w) total-below h)
+  folded-sound h = rw (folded-remains w gs) (sound-remains w (groupTotal w gs) gs (ownMasks w) total-below h)
 
   pub folded-shorter : length (folded w gs) ≤ length gs
-  folded-shorter = rw (folded-passed w gs) (length-passed (groupTotal w gs) gs (ownMasks w))
+  folded-shorter = rw (folded-remains w gs) (length-remains (groupTotal w gs) gs (ownMasks w))
 
   -- a mask that no phase gate meets has total 0
   unmet : (m : ℕ) → sumMet (λ k a. equal k m) gs (ownMasks w) ≡ 0 → groupTotal w gs m ≡ 0
@@ -70,7 +71,7 @@ module _ (w : ℕ) (gs : List Gate) where
   -- whatever counts by the angle, and counts 0 as nothing, counts of a group what it counts of the total
   pub group-folded : (h : ℕ → ℕ) → h 0 ≡ 0 → (m : ℕ) → sumMet (λ k a. h a * equal k m) (folded w gs) (ownMasks w) ≡ h (groupTotal w gs m)
   group-folded h none m =
-      ap (λ (l : List Gate). sumMet (λ k a. h a * equal k m) l (ownMasks w)) (folded-passed w gs) ∙ group-passed h none m (groupTotal w gs) gs (ownMasks w)
+      ap (λ (l : List Gate). sumMet (λ k a. h a * equal k m) l (ownMasks w)) (folded-remains w gs) ∙ group-remains h none m (groupTotal w gs) gs (ownMasks w)
       ∙ by (sumMet (λ k a. equal k m) gs (ownMasks w)) refl
     where
       by : (n : ℕ) → sumMet (λ k a. equal k m) gs (ownMasks w) ≡ n → ifMet n (h (groupTotal w gs m)) ≡ h (groupTotal w gs m)
@@ -98,6 +99,6 @@ module _ (w : ℕ) (gs : List Gate) where
   -- folding the folded list changes nothing
   pub folded-twice : folded w (folded w gs) ≡ folded w gs
   folded-twice =
-      folded-passed w (folded w gs)
-      ∙ ap₂ (λ (T : ℕ → ℕ) (l : List Gate). passed T l (ownMasks w)) (same-function (groupTotal w (folded w gs)) (groupTotal w gs) same-total) (folded-passed w gs)
-      ∙ passed-twice (groupTotal w gs) gs (ownMasks w) ∙ sym (folded-passed w gs)
+      folded-remains w (folded w gs)
+      ∙ ap₂ (λ (T : ℕ → ℕ) (l : List Gate). remains T l (ownMasks w)) (same-function (groupTotal w (folded w gs)) (groupTotal w gs) same-total) (folded-remains w gs)
+      ∙ remains-twice (groupTotal w gs) gs (ownMasks w) ∙ sym (folded-remains w gs)

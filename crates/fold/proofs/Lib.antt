@@ -1,9 +1,8 @@
-pub mod Passing
+pub mod Remaining
 pub mod Positions
 pub mod Folding
 pub mod Scores
 pub mod Files
 pub mod Answers
 mod Stepping
-mod Adding
 mod Writing

@@ -14,9 +14,10 @@ use Rattle.circuit.specs.declared.Gate.{Gate}
 use Rattle.circuit.specs.declared.Gate.the-variants.{Cnot, Phase}
 use Rattle.running.specs.Masks.{ownMasks, masksAfter, masksFrom, met, metBy, sumMet}
 use Rattle.running.proofs.Masks.{masks-none, masks-cons, masks-append, sum-none, sum-cons, sum-append}
-use Rattle.fold.specs.Fold.{groupTotal, maskAt, earlier, kept, firstOnly, becomes, foldedFrom, folded}
-use Rattle.fold.specs.Totals.{left}
-use Rattle.fold.proofs.Passing.{cleared, takes, after, passed, same-function, cleared-own, cleared-other}
+use Rattle.fold.specs.Fold.{kept, firstOnly, becomes, foldedFrom, folded}
+use Rattle.running.specs.Groups.{groupTotal, maskAt, earlier}
+use Rattle.fold.specs.Working.{left}
+use Rattle.fold.proofs.Remaining.{cleared, takes, after, remains, same-function, cleared-own, cleared-other}
 
 abbrev unless : ℕ → ℕ → ℕ
 unless zero t = t
@@ -67,16 +68,16 @@ next-open w gs p (Phase i a) rest e = same-function (openAt w gs (suc p)) (clear
         ap (λ (n : ℕ). unless n (groupTotal w gs m)) (next-earlier w gs p (Phase i a) rest e m ∙ ap (earlier w gs p m +_) (equal-no (λ q. d (sym q))) ∙ add-zero (earlier w gs p m))
         ∙ sym (cleared-other (openAt w gs p) (maskAt w gs p i) m d)
 
-from-passed : (w : ℕ) (gs : List Gate) (p : ℕ) (rest : List Gate) → drop p gs ≡ rest → foldedFrom w gs p rest ≡ passed (openAt w gs p) rest (masksAt w gs p)
-unfolding foldedFrom passed
-from-passed w gs p [] e = refl
-from-passed w gs p (g ∷ rest) e =
+from-remains : (w : ℕ) (gs : List Gate) (p : ℕ) (rest : List Gate) → drop p gs ≡ rest → foldedFrom w gs p rest ≡ remains (openAt w gs p) rest (masksAt w gs p)
+unfolding foldedFrom remains
+from-remains w gs p [] e = refl
+from-remains w gs p (g ∷ rest) e =
     let d : drop (suc p) gs ≡ rest = ap (λ (n : ℕ). drop n gs) (sym (add-one p)) ∙ sym (drop-drop 1 p gs) ∙ ap (drop 1) e in
-    ap₂ _++_ (stays w gs p g) (from-passed w gs (suc p) rest d ∙ ap₂ (λ (T : ℕ → ℕ) (ms : List ℕ). passed T rest ms) (next-open w gs p g rest e) (next-masks w gs p g rest e))
+    ap₂ _++_ (stays w gs p g) (from-remains w gs (suc p) rest d ∙ ap₂ (λ (T : ℕ → ℕ) (ms : List ℕ). remains T rest ms) (next-open w gs p g rest e) (next-masks w gs p g rest e))
 
 -- the list that one pass leaves, from the groups' totals and the own masks, is the folded list
-pub folded-passed : (w : ℕ) (gs : List Gate) → folded w gs ≡ passed (groupTotal w gs) gs (ownMasks w)
-folded-passed w gs =
-    from-passed w gs 0 gs refl
-    ∙ ap₂ (λ (T : ℕ → ℕ) (ms : List ℕ). passed T gs ms)
+pub folded-remains : (w : ℕ) (gs : List Gate) → folded w gs ≡ remains (groupTotal w gs) gs (ownMasks w)
+folded-remains w gs =
+    from-remains w gs 0 gs refl
+    ∙ ap₂ (λ (T : ℕ → ℕ) (ms : List ℕ). remains T gs ms)
     (same-function (openAt w gs 0) (groupTotal w gs) (λ m. ap (λ (n : ℕ). unless n (groupTotal w gs m)) (sum-none (λ k a. equal k m) (ownMasks w)))) (masks-none (ownMasks w))

@@ -1,29 +1,16 @@
 -- 01, "Running, counting, folding": the folded gate list, gate by gate and by position, and what the operation answers.
-use Prim.Native.Nat.{ℕ, zero, suc, _*_, _%_}
+use Prim.Native.Nat.{ℕ, zero, suc}
 use mathlib.Core.List.{List, [], _∷_, _++_}
-use lib.ListN.{length, getD, take}
-use Rattle.numbers.specs.Bits.{equal}
+use lib.ListN.{length}
 use Rattle.refusal.specs.Checks.{Check, outcome, roomCheck}
 use Rattle.refusal.specs.Contract.{Said, values, saidOf, Meets}
 use Rattle.circuit.specs.declared.Gate.{Gate}
 use Rattle.circuit.specs.declared.Gate.the-variants.{Cnot, Phase}
 use Rattle.circuit.specs.File.{wiresOf, gatesOf, fileChecks, fileOf}
 use Rattle.running.specs.Run.{score}
-use Rattle.running.specs.Masks.{ownMasks, masksFrom, sumMet}
+use Rattle.running.specs.Groups.{groupTotal, maskAt, earlier}
 use Rattle.fold.specs.declared.Folded.{Folded}
 use Rattle.fold.specs.declared.Folded.the-variants.{File, Refused}
-
--- "phase gates met at the same mask are one group": "the wrapped sum of the group" of mask m
-abbrev pub groupTotal : ℕ → List Gate → ℕ → ℕ
-groupTotal w gs m = sumMet (λ k a. a * equal k m) gs (ownMasks w) % 65536
-
--- "Each wire holds a parity of the starting bits: a mask": that of wire i before the gate at position p
-abbrev pub maskAt : ℕ → List Gate → ℕ → ℕ → ℕ
-maskAt w gs p i = getD (masksFrom (take p gs) (ownMasks w)) i 0
-
--- "The group's first gate": how many phase gates of mask m's group stand before position p
-abbrev pub earlier : ℕ → List Gate → ℕ → ℕ → ℕ
-earlier w gs p m = sumMet (λ k a. equal k m) (take p gs) (ownMasks w)
 
 -- "if the sum is 0 the first goes too"
 abbrev pub kept : ℕ → ℕ → List Gate

@@ -1,2 +1,2 @@
 pub mod Fold
-pub mod Totals
+pub mod Working

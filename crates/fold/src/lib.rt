@@ -2,10 +2,9 @@
 use refusal::Refusal;
 use running::Counted;
 ghost use mathlib.Core.Path.{_≡_};
-ghost use lib.ListN.{length};
 ghost use Rattle.refusal.specs.Checks.{outcome, passed};
 ghost use Rattle.circuit.specs.File.{countOf, gatesOf, fileChecks};
-ghost use Rattle.running.specs.Run.{cnots, score};
+ghost use Rattle.running.specs.Run.{cnots as cnotsIn, score};
 ghost use Rattle.fold.specs.declared.Folded.the-variants.{File};
 ghost use Rattle.fold.specs.Fold.{Folds};
 
@@ -33,14 +32,14 @@ fn answer(length: usize, before: usize, after: usize) -> Folded
 }
 
 // Folds a good file of that many gates and CNOTs, and of that score.
-fn fold_good(file: &[u8], gates: usize, mixing: usize, before: usize, out: &mut [u8]) -> Folded
+fn fold_good(file: &[u8], gates: usize, cnots: usize, before: usize, out: &mut [u8]) -> Folded
     requires { ⌜ (outcome (fileChecks 0 (now file)) ≡ passed) × (gates ≡ countOf (now file)) ⌝ }
-    requires { ⌜ (mixing ≡ cnots (gatesOf (now file))) × (before ≡ score (gatesOf (now file))) ⌝ }
+    requires { ⌜ (cnots ≡ cnotsIn (gatesOf (now file))) × (before ≡ score (gatesOf (now file))) ⌝ }
     ensures { λ r. ⌜ Folds (now (file .entry)) (now (out .entry)) r (now (out .exit)) ⌝ }
 {
     let mut totals = totals::totals_of(file);
-    let after = totals::count_nonzero(&totals) as usize;
-    let kept = mixing + after;
+    let tally = totals::tally_of(&totals);
+    let kept = cnots + (tally.kept as usize);
     let length = 8 + 4 * kept;
     if out.len() < length {
         return Folded::Refused(refusal::by(refusal::ROOM));
@@ -48,7 +47,7 @@ fn fold_good(file: &[u8], gates: usize, mixing: usize, before: usize, out: &mut 
     // byte 5 of a file is its wires
     circuit::put_header(file[5], kept as u16, out);
     writer::write_gates(file, gates, &mut totals, out);
-    answer(length, before, after)
+    answer(length, before, tally.score as usize)
 }
 
 // The folded file at the front of out, or a refusal.

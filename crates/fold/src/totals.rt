@@ -1,40 +1,48 @@
-// The totals of the angles, one for each mask.
+// The totals of the groups, one for each mask: how many stay, and what they score.
 ghost use mathlib.Core.Path.{_≡_};
 ghost use Prim.Native.Nat.{_≤_};
 ghost use lib.ListN.{length};
 ghost use Rattle.refusal.specs.Checks.{outcome, passed};
 ghost use Rattle.circuit.specs.File.{fileChecks};
-ghost use Rattle.running.specs.Run.{nonzero};
-ghost use Rattle.fold.specs.Totals.{nonzeros, Totals};
+ghost use Rattle.running.specs.Groups.{totalsOf};
+ghost use Rattle.fold.specs.Working.{staying, keptIn, scoreIn};
 
 // The wrapped sum of each mask's group.
-pub(crate) fn totals_of(file: &[u8]) -> [u16; 1024]
+pub(crate) fn totals_of(file: &[u8]) -> [u16; running::MASKS]
     requires { ⌜ outcome (fileChecks 0 (now file)) ≡ passed ⌝ }
-    ensures { λ r. ⌜ Totals (now (file .entry)) r ⌝ }
+    ensures { λ r. ⌜ r ≡ totalsOf (now (file .entry)) ⌝ }
 {
-    let mut totals = running::empty_row();
-    let mut masks = running::first_masks();
-    running::add_gates(file, &mut masks, &mut totals);
+    let mut totals = [0u16; running::MASKS];
+    let mut masks = [0u16; running::WIRES];
+    running::sum_groups(file, 0, &mut totals, &mut masks);
     totals
 }
 
-// 1 for a total that is not 0.
-fn one_nonzero(total: u16) -> u16
-    ensures { λ r. ⌜ r ≡ nonzero total ⌝ }
+// How many groups stay, and the score of what stays.
+pub(crate) struct Tally {
+    pub(crate) kept: u16,
+    pub(crate) score: u16,
+}
+
+// 1 for a total with which its group's first gate stays.
+fn stays(total: u16) -> u16
+    ensures { λ r. ⌜ r ≡ staying total ⌝ }
 {
     if total == 0 { 0 } else { 1 }
 }
 
-// How many totals are not 0.
-pub(crate) fn count_nonzero(totals: &[u16]) -> u16
+pub(crate) fn tally_of(totals: &[u16]) -> Tally
     requires { ⌜ length (now totals) ≤ 1024 ⌝ }
-    ensures { λ r. ⌜ r ≡ nonzeros (now (totals .entry)) ⌝ }
+    ensures { λ r. ⌜ (r .kept ≡ keptIn (now (totals .entry))) × (r .score ≡ scoreIn (now (totals .entry))) ⌝ }
 {
-    let mut count: u16 = 0;
+    let mut kept: u16 = 0;
+    let mut score: u16 = 0;
     let mut m: usize = 0;
     while m < totals.len() {
-        count += one_nonzero(totals[m]);
+        let total = totals[m];
+        kept += stays(total);
+        score += running::scored(total);
         m += 1;
     }
-    count
+    Tally { kept, score }
 }

@@ -1,15 +1,16 @@
 // The folded gates, written.
 use circuit::Gate;
 ghost use mathlib.Core.Path.{_≡_};
-ghost use Prim.Native.Nat.{_+_, _%_, _≤_};
+ghost use Prim.Native.Nat.{_+_, _≤_};
 ghost use lib.ListN.{length, getD, set};
 ghost use Rattle.refusal.specs.Checks.{outcome, passed};
-ghost use Rattle.circuit.specs.Bytes.{putAt};
+ghost use Rattle.circuit.specs.Bytes.{putAt, Wrote};
 ghost use Rattle.circuit.specs.Gates.{bytesOf};
 ghost use Rattle.circuit.specs.File.{wiresOf, countOf, gatesOf, fileChecks};
-ghost use Rattle.running.specs.Masks.{met, masksAfter, modulo};
+ghost use Rattle.running.specs.Masks.{met, masksAfter};
+ghost use Rattle.running.specs.Groups.{totalsOf};
 ghost use Rattle.fold.specs.Fold.{folded, kept};
-ghost use Rattle.fold.specs.Totals.{takenFrom, found, left, leaves, Totals};
+ghost use Rattle.fold.specs.Working.{takenFrom, found, left, leaves};
 
 // What becomes of a gate.
 enum Left {
@@ -18,14 +19,17 @@ enum Left {
 }
 
 // Takes a mask's total: the entry becomes 0, so that later gates of the group find 0.
-fn take(totals: &mut [u16; 1024], mask: u16) -> u16
-    ensures { λ r. ⌜ r ≡ getD (now (totals .entry)) (mask % 1024) 0 ⌝ }
-    ensures { λ r. ⌜ now (totals .exit) ≡ set (now (totals .entry)) (mask % 1024) 0 ⌝ }
+fn take(totals: &mut [u16], mask: u16) -> u16
+    ensures { λ r. ⌜ r ≡ getD (now (totals .entry)) mask 0 ⌝ }
+    ensures { λ r. ⌜ now (totals .exit) ≡ set (now (totals .entry)) mask 0 ⌝ }
 {
-    let at = (mask % 1024) as usize;
-    let total = totals[at];
-    totals[at] = 0;
-    total
+    let m = mask as usize;
+    if m < totals.len() {
+        let total = totals[m];
+        totals[m] = 0;
+        return total;
+    }
+    0
 }
 
 // A phase gate with its group's total.
@@ -39,10 +43,10 @@ fn phase(wire: u8, total: u16) -> Left
 }
 
 // What becomes of a gate whose group's total is taken from the row.
-fn fold_gate(gate: Gate, masks: &mut [u16; 16], totals: &mut [u16; 1024]) -> Left
-    ensures { λ _. ⌜ now (masks .exit) ≡ masksAfter (modulo gate) (now (masks .entry)) ⌝ }
-    ensures { λ _. ⌜ now (totals .exit) ≡ takenFrom (met (modulo gate) (now (masks .entry))) (now (totals .entry)) ⌝ }
-    ensures { λ r. ⌜ leaves r ≡ left (found (met (modulo gate) (now (masks .entry))) (now (totals .entry))) gate ⌝ }
+fn fold_gate(gate: Gate, masks: &mut [u16], totals: &mut [u16]) -> Left
+    ensures { λ _. ⌜ now (masks .exit) ≡ masksAfter gate (now (masks .entry)) ⌝ }
+    ensures { λ _. ⌜ now (totals .exit) ≡ takenFrom (met gate (now (masks .entry))) (now (totals .entry)) ⌝ }
+    ensures { λ r. ⌜ leaves r ≡ left (found (met gate (now (masks .entry))) (now (totals .entry))) gate ⌝ }
 {
     match gate {
         Gate::Cnot { control, target } => {
@@ -59,35 +63,29 @@ fn fold_gate(gate: Gate, masks: &mut [u16; 16], totals: &mut [u16; 1024]) -> Lef
 // Writes what is left of a gate at `at`, and answers the place behind it.
 fn put_left(left: Left, out: &mut [u8], at: usize) -> usize
     requires { ⌜ at + length (bytesOf (leaves left)) ≤ length (now out) ⌝ }
-    ensures { λ r. ⌜ r ≡ at + length (bytesOf (leaves left)) ⌝ }
-    ensures { λ r. ⌜ now (out .exit) ≡ putAt (bytesOf (leaves left)) at (now (out .entry)) ⌝ }
+    ensures { λ r. ⌜ Wrote (bytesOf (leaves left)) at (now (out .entry)) r (now (out .exit)) ⌝ }
 {
     match left {
         Left::Goes => at,
         Left::Stays(gate) => {
-            let bytes = circuit::gate_bytes(gate);
-            out[at] = bytes[0];
-            out[at + 1] = bytes[1];
-            out[at + 2] = bytes[2];
-            out[at + 3] = bytes[3];
+            circuit::put_gate(gate, out, at);
             at + 4
         }
     }
 }
 
 // Writes the folded gates behind the header.
-pub(crate) fn write_gates(file: &[u8], gates: usize, totals: &mut [u16; 1024], out: &mut [u8])
+pub(crate) fn write_gates(file: &[u8], gates: usize, totals: &mut [u16], out: &mut [u8])
     requires { ⌜ (outcome (fileChecks 0 (now file)) ≡ passed) × (gates ≡ countOf (now file)) ⌝ }
-    requires { ⌜ Totals (now file) (now totals) ⌝ }
+    requires { ⌜ now totals ≡ totalsOf (now file) ⌝ }
     requires { ⌜ 8 + length (bytesOf (folded (wiresOf (now file)) (gatesOf (now file)))) ≤ length (now out) ⌝ }
     ensures { λ _. ⌜ now (out .exit) ≡ putAt (bytesOf (folded (wiresOf (now (file .entry))) (gatesOf (now (file .entry))))) 8 (now (out .entry)) ⌝ }
 {
-    let mut masks = running::first_masks();
+    let mut masks = running::own_masks();
     let mut at: usize = 8;
     let mut i: usize = 0;
     while i < gates {
-        let from = 8 + 4 * i;
-        let gate = circuit::gate_of(file[from], file[from + 1], file[from + 2], file[from + 3]);
+        let gate = circuit::good_gate(file, i);
         let left = fold_gate(gate, &mut masks, totals);
         at = put_left(left, out, at);
         i += 1;

@@ -1,22 +1,27 @@
 -- Phase gates by the mask that they meet: a sum over the gates, collected mask by mask.
-use Prim.Native.Nat.{ℕ, _+_, _*_, _^_}
-use native.Mathlib.Nat.{add-mul, zero-mul}
+use Prim.Native.Nat.{ℕ, _+_, _*_, _^_, _<_, _≤_}
+use native.Mathlib.Nat.{add-mul, zero-mul, mul-zero}
+use native.Mathlib.Decide.{decLt}
 use native.Mathlib.Omega.{arith}
 use mathlib.Core.Path.{_≡_, refl, sym, ap, ap₂, _∙_}
-use mathlib.Core.Bool.{not}
 use mathlib.Core.List.{List, [], _∷_}
-use lib.Dec.{eqb}
-use lib.ListN.{getD}
-use Rattle.numbers.specs.Bits.{indicator, equal}
+use lib.ListN.{getD, List·getD-eq-default}
+use lib.Pow.{pow-mono}
+use Rattle.numbers.specs.Bits.{equal}
 use Rattle.numbers.specs.Sums.{sum}
 use Rattle.numbers.proofs.Sums.{ℕ-adds, sumOf-ext, sumOf-none, sumOf-plus}
-use Rattle.numbers.proofs.Parity.{equal-sym}
+use Rattle.numbers.proofs.Lists.{length-list, getD-list}
+use Rattle.numbers.proofs.Parity.{equal-sym, equal-no}
+use Rattle.numbers.proofs.Turns.{≈-of, _≈∙_}
 use Rattle.numbers.proofs.Subsets.{sum-pick}
 use Rattle.circuit.specs.declared.Gate.{Gate}
 use Rattle.circuit.specs.declared.Gate.the-variants.{Cnot, Phase}
-use Rattle.running.specs.Run.{score}
-use Rattle.running.specs.Masks.{masksAfter, met, metBy, sumMet}
-use Rattle.running.proofs.Masks.{MasksBelow, after-below, sum-none, sum-cons}
+use Rattle.running.specs.Run.{scores, score}
+use Rattle.circuit.specs.File.{wiresOf, gatesOf}
+use Rattle.running.specs.Masks.{mostWires, mostMasks, ownMasks, masksAfter, met, metBy, sumMet}
+use Rattle.running.specs.Groups.{groupTotal, totalsOf}
+use Rattle.running.proofs.Masks.{MasksBelow, own-below, after-below, sum-none, sum-cons}
+use Rattle.running.proofs.Meetings.{sumMet-≈}
 
 none : (n : ℕ) (f p : ℕ → ℕ) → ((m : ℕ) → f m ≡ 0) → sum n (λ m. f m * p m) ≡ 0
 none n f p e = sumOf-ext 0 _+_ n (λ m. f m * p m) (λ m. 0) (λ m l. ap (_* p m) (e m) ∙ zero-mul (p m)) ∙ sumOf-none 0 _+_ ℕ-adds n
@@ -51,8 +56,30 @@ sum-vanishes f g h (Phase i a ∷ gs) ms e =
     sum-cons g (Phase i a) gs ms ∙ omega arith
 
 -- the score as such a sum, whatever the masks
-pub score-met : (gs : List Gate) (ms : List ℕ) → score gs ≡ sumMet (λ k a. indicator (not (eqb a 0)) * 1) gs ms
+pub score-met : (gs : List Gate) (ms : List ℕ) → score gs ≡ sumMet (λ k a. scores a * 1) gs ms
 unfolding score sumMet
 score-met [] ms = refl
 score-met (Cnot c t ∷ gs) ms = let r = score-met gs (masksAfter (Cnot c t) ms) in omega arith
 score-met (Phase i a ∷ gs) ms = let r = score-met gs ms in omega arith
+
+-- no gate meets a mask of 2^w or more
+sum-nothing : (gs : List Gate) (ms : List ℕ) → sumMet (λ k a. 0) gs ms ≡ 0
+unfolding sumMet
+sum-nothing [] ms = refl
+sum-nothing (Cnot c t ∷ gs) ms = let r = sum-nothing gs (masksAfter (Cnot c t) ms) in omega arith
+sum-nothing (Phase i a ∷ gs) ms = let r = sum-nothing gs ms in omega arith
+
+pub no-group : (w : ℕ) (gs : List Gate) (m : ℕ) → 2 ^ w ≤ m → groupTotal w gs m ≡ 0
+no-group w gs m h =
+    (sumMet-≈ w (λ k a. a * equal k m) (λ k a. 0) (λ k a l. ≈-of (ap (a *_) (equal-no (λ (e : k ≡ m). omega arith)) ∙ mul-zero a)) gs (ownMasks w) (own-below w)
+    ≈∙ ≈-of (sum-nothing gs (ownMasks w))) .turned
+
+-- a good file's row of totals has each mask's
+pub total-at : (f : List ℕ) → wiresOf f ≤ mostWires → (m : ℕ) → getD (totalsOf f) m 0 ≡ groupTotal (wiresOf f) (gatesOf f) m
+total-at f h m = by (decLt m mostMasks)
+  where
+    by : Dec (m < mostMasks) → getD (totalsOf f) m 0 ≡ groupTotal (wiresOf f) (gatesOf f) m
+    by (yes l) = getD-list mostMasks (groupTotal (wiresOf f) (gatesOf f)) m 0 l
+    by (no l) =
+        List·getD-eq-default (totalsOf f) 0 {n = m} (omega (arith, length-list mostMasks (groupTotal (wiresOf f) (gatesOf f))))
+        ∙ sym (no-group (wiresOf f) (gatesOf f) m (omega (arith, pow-mono {i = wiresOf f} {j = mostWires} h)))

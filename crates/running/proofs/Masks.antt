@@ -1,13 +1,13 @@
 -- Masks follow a run: each wire's bit is the parity of its mask with the start. So a run's total is a sum over the phase gates.
-use Prim.Native.Nat.{ℕ, _+_, _-_, _*_, _%_, _^_, _<_, _≤_}
+use Prim.Native.Nat.{ℕ, _+_, _*_, _%_, _^_, _<_, _≤_}
 use native.Mathlib.Nat.{add-assoc, zero-add, one-mul}
 use native.Mathlib.Decide.{decLt, ℕ-discrete}
 use native.Mathlib.Omega.{arith}
 use mathlib.Core.Path.{_≡_, refl, sym, ap, ap₂, _∙_}
 use mathlib.Core.List.{List, [], _∷_, _++_}
 use lib.Bits.{bitXor, xor-lt}
-use lib.ListN.{length, getD, set, replicate, length-set, length-replicate, getD-replicate, List·getD-append, List·getD-eq-default}
-use lib.Seq.{getD-set-same, getD-set-other, set-out, getD-append-add}
+use lib.ListN.{length, getD, set, replicate, length-set, length-replicate, getD-replicate, List·getD-eq-default}
+use lib.Seq.{getD-set-same, getD-set-other, set-out}
 use lib.Pow.{pow-pos, pow-lt}
 use Rattle.numbers.specs.Bits.{bit, dot}
 use Rattle.numbers.proofs.Lists.{length-list, getD-list}
@@ -17,7 +17,7 @@ use Rattle.circuit.specs.declared.Gate.{Gate}
 use Rattle.circuit.specs.declared.Gate.the-variants.{Cnot, Phase}
 use Rattle.circuit.specs.Gates.{Sound, AllSound}
 use Rattle.running.specs.Run.{stepped, endFrom, totalFrom, phaseFrom}
-use Rattle.running.specs.Masks.{Mask, ownMasks, firstMasks, masksAfter, met, masksFrom, metBy, sumMet, totalBy}
+use Rattle.running.specs.Masks.{Met, Mask, ownMasks, masksAfter, met, masksFrom, metBy, sumMet, totalBy}
 use Rattle.circuit.proofs.Decoding.{sound-parts}
 use Rattle.running.proofs.Runs.{start-of}
 
@@ -159,16 +159,6 @@ zeros n i = by (decLt i n)
     by (yes h) = getD-replicate n i 0 0 h
     by (no h) = List·getD-eq-default (replicate n 0) 0 {n = i} (omega (arith, length-replicate {A = ℕ} n 0))
 
-pub first-below : MasksBelow 10 firstMasks
-first-below i = by (decLt i 10)
-  where
-    by : Dec (i < 10) → getD firstMasks i 0 < 2 ^ 10
-    by (yes h) = rw (List·getD-append (ownMasks 10) (replicate 6 0) 0 i h) (own-below 10 i)
-    by (no h) =
-        let e : i ≡ 10 + (i - 10) = omega arith in
-        let z : getD firstMasks i 0 ≡ 0 = ap (λ (k : ℕ). getD firstMasks k 0) e ∙ getD-append-add (ownMasks 10) (replicate 6 0) (i - 10) 0 ∙ zeros 6 (i - 10) in
-        omega arith
-
 pub all-below : (w : ℕ) (gs : List Gate) → MasksBelow w (masksFrom gs (ownMasks w))
 all-below w gs = masks-below w gs (ownMasks w) (own-below w)
 
@@ -178,13 +168,14 @@ pub record Alike (w : ℕ) (ms ns : List ℕ) : Type 0 where
   pub right : w ≤ length ns
   pub same : (i : ℕ) → i < w → getD ms i 0 ≡ getD ns i 0
 
-pub first-alike : (w : ℕ) → w ≤ 10 → Alike w firstMasks (ownMasks w)
-first-alike w h =
+pub own-alike : (v w : ℕ) → w ≤ v → Alike w (ownMasks v) (ownMasks w)
+own-alike v w h =
     let l = length-list w (λ (i : ℕ). 2 ^ i) in
+    let m = length-list v (λ (i : ℕ). 2 ^ i) in
     record {
       left = omega arith;
       right = omega arith;
-      same = λ i k. List·getD-append (ownMasks 10) (replicate 6 0) 0 i (omega arith) ∙ getD-list 10 (λ j. 2 ^ j) i 0 (omega arith) ∙ sym (getD-list w (λ j. 2 ^ j) i 0 k);
+      same = λ i k. getD-list v (λ j. 2 ^ j) i 0 (omega arith) ∙ sym (getD-list w (λ j. 2 ^ j) i 0 k);
     }
 
 pub met-alike : (w : ℕ) (g : Gate) (ms ns : List ℕ) → Sound w g → Alike w ms ns → met g ms ≡ met g ns
@@ -207,3 +198,14 @@ alike-after w (Cnot c t) ms ns h k =
         ∙ sym (getD-set-same ns t (mix ns) 0 (omega (arith, h .1, k .right))))
     at i l (no e) = getD-set-other ms t i (mix ms) 0 e ∙ k .same i l ∙ sym (getD-set-other ns t i (mix ns) 0 e)
 alike-after w (Phase i a) ms ns h k = k
+
+pub alike-from : (w : ℕ) (gs : List Gate) (ms ns : List ℕ) → AllSound w gs → Alike w ms ns → Alike w (masksFrom gs ms) (masksFrom gs ns)
+unfolding masksFrom AllSound
+alike-from w [] ms ns h k = k
+alike-from w (g ∷ gs) ms ns h k = alike-from w gs (masksAfter g ms) (masksAfter g ns) (h .1) (alike-after w g ms ns (h .0) k)
+
+pub sum-alike : (f : ℕ → ℕ → ℕ) (w : ℕ) (gs : List Gate) (ms ns : List ℕ) → AllSound w gs → Alike w ms ns → sumMet f gs ms ≡ sumMet f gs ns
+unfolding sumMet AllSound
+sum-alike f w [] ms ns h k = refl
+sum-alike f w (g ∷ gs) ms ns h k =
+    ap₂ (λ (x : Met) (n : ℕ). metBy f x + n) (met-alike w g ms ns (h .0) k) (sum-alike f w gs (masksAfter g ms) (masksAfter g ns) (h .1) (alike-after w g ms ns (h .0) k))

@@ -1,14 +1,13 @@
--- Sums over the phase gates that a walk meets: term by term, exchanged with another sum, and collected by mask.
+-- Sums over the phase gates that a walk meets: term by term, and exchanged with another sum.
 use Prim.Native.Nat.{ℕ, _+_, _*_, _^_, _<_}
-use native.Mathlib.Nat.{mul-add, mul-zero, mul-comm, mul-assoc}
+use native.Mathlib.Nat.{mul-add, mul-zero}
 use mathlib.Core.Path.{_≡_, refl, sym, ap, ap₂, _∙_}
 use mathlib.Core.List.{List, [], _∷_}
 use lib.ListN.{getD}
-use Rattle.numbers.specs.Bits.{equal}
 use Rattle.numbers.specs.Sums.{sum}
 use Rattle.numbers.specs.Turn.{_≈_}
 use Rattle.numbers.proofs.Sums.{ℕ-adds, sumOf-ext, sumOf-plus}
-use Rattle.numbers.proofs.Subsets.{sum-zero, sum-pick}
+use Rattle.numbers.proofs.Subsets.{sum-zero}
 use Rattle.numbers.proofs.Turns.{≈-refl, ≈-add, ≈-of, _≈∙_}
 use Rattle.circuit.specs.declared.Gate.{Gate}
 use Rattle.circuit.specs.declared.Gate.the-variants.{Cnot, Phase}
@@ -38,15 +37,3 @@ sumMet-swap n k f (g ∷ gs) ms =
     one : (r : Met) → sum n (λ s. k s * metBy (f s) r) ≡ metBy (λ m a. sum n (λ s. k s * f s m a)) r
     one Mixed = sum-zero n (λ s. k s * 0) (λ s h. mul-zero (k s))
     one (Mask m a) = refl
-
--- angles added at their masks, then summed by a factor of the mask, are each gate's angle by the factor of its mask
-pub collected : (w : ℕ) (p : ℕ → ℕ) (gs : List Gate) (ms : List ℕ) → MasksBelow w ms
-    → sum (2 ^ w) (λ m. p m * sumMet (λ k a. equal m k * a) gs ms) ≈ sumMet (λ m a. p m * a) gs ms
-collected w p gs ms b =
-    ≈-of (sumMet-swap (2 ^ w) p (λ m k a. equal m k * a) gs ms)
-    ≈∙ sumMet-≈ w (λ k a. sum (2 ^ w) (λ m. p m * (equal m k * a))) (λ m a. p m * a) one gs ms b
-  where
-    one : (k a : ℕ) → k < 2 ^ w → sum (2 ^ w) (λ m. p m * (equal m k * a)) ≈ p k * a
-    one k a h =
-        ≈-of (sumOf-ext 0 _+_ (2 ^ w) (λ m. p m * (equal m k * a)) (λ m. p m * a * equal m k) (λ m l. ap (p m *_) (mul-comm (equal m k) a) ∙ sym (mul-assoc (p m) a (equal m k)))
-        ∙ sum-pick (2 ^ w) k (λ m. p m * a) h)

@@ -1,2 +1,4 @@
 pub mod Run
 pub mod Masks
+pub mod Groups
+pub mod Working

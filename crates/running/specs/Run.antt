@@ -64,15 +64,15 @@ phases [] = 0
 phases (Cnot c t ∷ gs) = phases gs
 phases (Phase i a ∷ gs) = 1 + phases gs
 
--- "whose angle isn't 0"
-abbrev pub nonzero : ℕ → ℕ
-nonzero a = indicator (not (eqb a 0))
+-- 1 for an angle that scores: "whose angle isn't 0"
+abbrev pub scores : ℕ → ℕ
+scores a = indicator (not (eqb a 0))
 
 -- "The score is the number of phase gates whose angle isn't 0."
 unfoldable pub score : List Gate → ℕ
 score [] = 0
 score (Cnot c t ∷ gs) = score gs
-score (Phase i a ∷ gs) = nonzero a + score gs
+score (Phase i a ∷ gs) = scores a + score gs
 
 abbrev pub countedSays : Counted → Said
 countedSays (Gates c p s) = values (c ∷ p ∷ s ∷ [])

@@ -1,20 +1,45 @@
 // The count of a circuit's gates.
 use crate::Counted;
-use crate::packed::four;
+use circuit::Gate;
 use circuit::Reading;
 use circuit::read;
 ghost use mathlib.Core.Path.{_≡_};
-ghost use Prim.Native.Nat.{_-_, _/_, _%_};
+ghost use mathlib.Core.List.{[], _∷_};
 ghost use Rattle.refusal.specs.Checks.{outcome, passed};
 ghost use Rattle.running.specs.declared.Counted.the-variants.{Gates};
 ghost use Rattle.circuit.specs.File.{countOf, gatesOf, fileChecks};
-ghost use Rattle.running.specs.Run.{nonzero, cnots, phases, score, Counts};
+ghost use Rattle.running.specs.Run.{scores, cnots, phases, score, Counts};
 
-// 1 for a packed phase gate that the score counts: its kind is even, and not both bytes of its angle are 0.
-fn one_scored(x: u32) -> u32
-    ensures { λ r. ⌜ r ≡ nonzero (x / 65536) - x % 2 ⌝ }
+// 1 where a phase gate of that angle scores.
+pub fn scored(angle: u16) -> u16
+    ensures { λ r. ⌜ r ≡ scores angle ⌝ }
 {
-    if x / 65536 == 0 { 0 } else { 1 - x % 2 }
+    if angle == 0 { 0 } else { 1 }
+}
+
+// A gate's own count of CNOTs, and its own score.
+fn one_cnot(gate: Gate) -> u16
+    ensures { λ r. ⌜ r ≡ cnots (gate ∷ []) ⌝ }
+{
+    match gate {
+        Gate::Cnot {
+            control: _,
+            target: _,
+        } => 1,
+        Gate::Phase { wire: _, angle: _ } => 0,
+    }
+}
+
+fn one_scored(gate: Gate) -> u16
+    ensures { λ r. ⌜ r ≡ score (gate ∷ []) ⌝ }
+{
+    match gate {
+        Gate::Cnot {
+            control: _,
+            target: _,
+        } => 0,
+        Gate::Phase { wire: _, angle } => scored(angle),
+    }
 }
 
 // The counts of a good file's gates.
@@ -22,13 +47,13 @@ fn count_gates(file: &[u8], gates: usize) -> Counted
     requires { ⌜ (outcome (fileChecks 0 (now file)) ≡ passed) × (gates ≡ countOf (now file)) ⌝ }
     ensures { λ r. ⌜ r ≡ Gates (cnots (gatesOf (now (file .entry)))) (phases (gatesOf (now (file .entry)))) (score (gatesOf (now (file .entry)))) ⌝ }
 {
-    let mut cnots: u32 = 0;
-    let mut score: u32 = 0;
+    let mut cnots: u16 = 0;
+    let mut score: u16 = 0;
     let mut i: usize = 0;
     while i < gates {
-        let x = four(file, 8 + 4 * i);
-        cnots += x % 2;
-        score += one_scored(x);
+        let gate = circuit::good_gate(file, i);
+        cnots += one_cnot(gate);
+        score += one_scored(gate);
         i += 1;
     }
     let phases = gates - (cnots as usize);

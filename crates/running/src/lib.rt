@@ -1,18 +1,24 @@
-// Document 01, "Running, counting, folding": runs, counts, and the masks that the wires hold.
+// Document 01, "Running, counting, folding": runs, counts, the masks that the wires hold, and the groups that met them.
 use refusal::Refusal;
 
 mod counter;
-mod packed;
+mod grouper;
 mod runner;
 mod walker;
 
 pub use counter::count;
+pub use counter::scored;
+pub use grouper::sum_groups;
 pub use runner::run;
-pub use walker::add_gates;
-pub use walker::empty_row;
-pub use walker::first_masks;
 pub use walker::mask_at;
 pub use walker::mix;
+pub use walker::own_masks;
+
+// The most wires that a circuit has.
+pub const WIRES: usize = 10;
+
+// As many masks as that many wires can hold: 2^10.
+pub const MASKS: usize = 1024;
 
 // A run's answer.
 pub enum Ran {

@@ -1,45 +1,48 @@
 // A run of a circuit on one starting state.
 use crate::Ran;
-use crate::packed::four;
+use circuit::Gate;
 use circuit::Reading;
 use circuit::read;
 use numbers::power;
-use refusal::Refusal;
 ghost use mathlib.Core.Path.{_≡_};
-ghost use Prim.Native.Nat.{_+_, _-_, _*_, _/_, _%_, _^_, _≤_};
-ghost use lib.Bits.{bitXor};
+ghost use Prim.Native.Nat.{_<_};
 ghost use Rattle.refusal.specs.Checks.{outcome, passed};
 ghost use Rattle.numbers.specs.Bits.{bit};
 ghost use Rattle.running.specs.declared.Ran.the-variants.{End};
+ghost use Rattle.circuit.specs.Gates.{Sound};
 ghost use Rattle.circuit.specs.File.{countOf, gatesOf, fileChecks};
-ghost use Rattle.running.specs.Run.{endFrom, phaseFrom, Runs};
+ghost use Rattle.running.specs.Run.{stepped, added, endFrom, phaseFrom, Runs};
 
-// The bit of a packed gate's wire: of a CNOT, its control.
-fn bit_of(x: u32, state: u32) -> u32
-    ensures { λ r. ⌜ r ≡ bit state (x / 256 % 32) ⌝ }
+fn bit_of(state: u16, wire: u8) -> u16
+    requires { ⌜ wire < 10 ⌝ }
+    ensures { λ r. ⌜ r ≡ bit state wire ⌝ }
 {
-    (state >> (x / 256 % 32)) % 2
-}
-
-// 1 where a CNOT turns its target; a phase gate's kind is even.
-fn flip(x: u32, state: u32) -> u32
-    ensures { λ r. ⌜ r ≡ bit state (x / 256 % 32) * (x % 2) ⌝ }
-{
-    bit_of(x, state) * (x % 2)
+    (state >> wire) % 2
 }
 
 // The state after a gate.
-fn step(x: u32, state: u32) -> u32
-    ensures { λ r. ⌜ r ≡ bitXor state (bit state (x / 256 % 32) * (x % 2) * 2 ^ (x / 65536 % 32)) ⌝ }
+fn step(gate: Gate, state: u16) -> u16
+    requires { ⌜ Sound 10 gate ⌝ }
+    ensures { λ r. ⌜ r ≡ stepped gate state ⌝ }
 {
-    state ^ (flip(x, state) << (x / 65536 % 32))
+    match gate {
+        Gate::Cnot { control, target } => state ^ (bit_of(state, control) << target),
+        Gate::Phase { wire: _, angle: _ } => state,
+    }
 }
 
 // What a gate adds to the phase.
-fn turn(x: u32, state: u32) -> u32
-    ensures { λ r. ⌜ (r ≡ bit state (x / 256 % 32) * (1 - x % 2) * (x / 65536 % 256 * 256 + x / 16777216)) × (r ≤ 65535) ⌝ }
+fn turn(gate: Gate, state: u16) -> u16
+    requires { ⌜ Sound 10 gate ⌝ }
+    ensures { λ r. ⌜ r ≡ added gate state ⌝ }
 {
-    bit_of(x, state) * (1 - x % 2) * (x / 65536 % 256 * 256 + x / 16777216)
+    match gate {
+        Gate::Cnot {
+            control: _,
+            target: _,
+        } => 0,
+        Gate::Phase { wire, angle } => angle * bit_of(state, wire),
+    }
 }
 
 // The run of a good file's gates.
@@ -47,19 +50,16 @@ fn run_gates(file: &[u8], gates: usize, start: u16) -> Ran
     requires { ⌜ (outcome (fileChecks 0 (now file)) ≡ passed) × (gates ≡ countOf (now file)) ⌝ }
     ensures { λ r. ⌜ r ≡ End (endFrom (gatesOf (now (file .entry))) start) (phaseFrom (gatesOf (now (file .entry))) start) ⌝ }
 {
-    let mut state: u32 = start as u32;
-    let mut phase: u32 = 0;
+    let mut state: u16 = start;
+    let mut phase: u16 = 0;
     let mut i: usize = 0;
     while i < gates {
-        let x = four(file, 8 + 4 * i);
-        phase += turn(x, state);
-        state = step(x, state);
+        let gate = circuit::good_gate(file, i);
+        phase = std::num::wrapping_add_u16(phase, turn(gate, state));
+        state = step(gate, state);
         i += 1;
     }
-    Ran::End {
-        state: state as u16,
-        phase: (phase % 65536) as u16,
-    }
+    Ran::End { state, phase }
 }
 
 // The end state and the total phase of a run from `start`, or a refusal.
@@ -70,11 +70,7 @@ pub fn run(file: &[u8], start: u16) -> Ran
         Reading::Refused(refusal) => Ran::Refused(refusal),
         Reading::Circuit { wires, gates } => {
             if (start as usize) >= power(wires) {
-                return Ran::Refused(Refusal {
-                    number: refusal::STATE,
-                    side: 0,
-                    position: 0,
-                });
+                return Ran::Refused(refusal::by(refusal::STATE));
             }
             run_gates(file, gates, start)
         }

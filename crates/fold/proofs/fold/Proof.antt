@@ -18,23 +18,29 @@ enum-known-refusal c = search needs
 enum-known-cnots : tie.Need-enum-known-cnots
 enum-known-cnots c = search needs
 
+abbrev start : tie.After-cnots → tie.Start
+start c = c .before .before .before .before .before
+
+abbrev known : tie.After-cnots → tie.After-shared-slice-known
+known c = c .before .before .before .before
+
 -- what the count's answer says
-counts : (c : tie.After-cnots) → Tallied (c .before .before .before .before .before .args .file .now) (c .cnots .given .0 .0) (c .cnots .given .0 .1 .0) (c .cnots .given .0 .1 .1 .0)
+counts : (c : tie.After-cnots) → Tallied (start c .args .file .now) (c .cnots .given .0 .0) (c .cnots .given .0 .1 .0) (c .cnots .given .0 .1 .1 .0)
 counts c =
     let got = c .before .before in
     let v = c .cnots .given in
     count-answers (got .before .before .before .args .file .now) (got .count .result) (got .count .ensures) (v .0 .0) (v .0 .1 .0) (v .0 .1 .1 .0) (v .1)
 
-gates-of : (c : tie.After-cnots) → c .cnots .given .0 .0 + c .cnots .given .0 .1 .0 ≡ countOf (c .before .before .before .before .before .args .file .now)
+gates-of : (c : tie.After-cnots) → c .cnots .given .0 .0 + c .cnots .given .0 .1 .0 ≡ countOf (start c .args .file .now)
 gates-of c =
-    let s = c .before .before .before .before in
+    let s = known c in
     let v = c .cnots .given in
     counts-all (s .before .args .file .now) (v .0 .0) (v .0 .1 .0) (v .0 .1 .1 .0) (λ j. s .shared-slice-known .given j .fits) (counts c)
 
 add-fold-good : tie.Need-add-fold-good
 add-fold-good c =
     let d = c .before in
-    omega (arith, gates-of d, good-file 0 (d .before .before .before .before .before .args .file .now) (counts d .passes) .count)
+    omega (arith, gates-of d, good-file 0 (start d .args .file .now) (counts d .passes) .count)
 
 fold-good-requires : tie.Need-fold-good-requires
 fold-good-requires c κs =

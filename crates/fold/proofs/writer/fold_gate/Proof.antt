@@ -1,8 +1,14 @@
-use Rattle.fold.specs.Totals.{leaves}
+use Rattle.fold.specs.Working.{leaves}
 use Rattle.fold.proofs.Stepping.{cnot-stays, total-taken}
 use borrow.Author.Needs.{needs}
 use Rattle.fold.proofs.writer.fold_gate.Statement.{statement}
 use Rattle.fold.proofs.writer.fold_gate.Tie as tie
+
+abbrev mixing : tie.After-mix → tie.Start
+mixing c = c .before .before .before .before .before .before .before
+
+abbrev meeting : tie.After-gate2 → tie.Start
+meeting c = c .before .before .before .before
 
 enum-known-gate : tie.Need-enum-known-gate
 enum-known-gate c = search needs
@@ -22,19 +28,30 @@ take-requires c κs = search needs
 phase-requires : tie.Need-phase-requires
 phase-requires c κs = search needs
 
+same-length : tie.Need-same-length
+same-length c = search needs
+
 returns : tie.Need-returns
 returns c =
-    let found = c .before .before .before .gate .given in
-    let a = c .before .before .before .before .before .args in
-    cnot-stays (a .gate) (a .masks .now) (a .totals .now) (found .0 .0) (found .0 .1 .0) (c .mix .last .0) (found .1) (c .mix .ensures)
+    let done = c .before .before in
+    let a = mixing done .args in
+    let v = done .before .before .before .gate .given in
+    cnot-stays (a .gate) (a .masks .now) (a .totals .now) (v .0 .0) (v .0 .1 .0) (done .mix .last .0) (v .1) (done .mix .ensures)
+
+same-length-2 : tie.Need-same-length-2
+same-length-2 c = search needs
+
+same-length-3 : tie.Need-same-length-3
+same-length-3 c = search needs
 
 returns-2 : tie.Need-returns-2
 returns-2 c =
-    let taken = c .before in
-    let mask = taken .before .before in
-    let found = mask .before .before .before .gate2 .given in
-    let a = mask .before .before .before .before .before .args in
-    total-taken (a .gate) (a .masks .now) (a .totals .now) (found .0 .0) (found .0 .1 .0) (mask .mask-at .result) (taken .take .result) (taken .take .last .0) (leaves (c .phase .result)) (found .1) (mask .mask-at .ensures) (taken .take .ensures .0) (taken .take .ensures .1) (c .phase .ensures)
+    let took = c .before .before .before in
+    let met = took .before .before in
+    let told = met .before .before .before in
+    let a = meeting told .args in
+    let v = told .gate2 .given in
+    total-taken (a .gate) (a .masks .now) (a .totals .now) (v .0 .0) (v .0 .1 .0) (met .mask-at .result) (took .take .result) (took .take .last .0) (leaves (c .phase .result)) (v .1) (met .mask-at .ensures) (took .take .ensures .0) (took .take .ensures .1) (c .phase .ensures)
 
 pub fold-gate-spec : {M : Type 1} → statement M
 fold-gate-spec =
@@ -46,5 +63,8 @@ fold-gate-spec =
     mask-at-requires
     take-requires
     phase-requires
+    same-length
     returns
+    same-length-2
+    same-length-3
     returns-2)

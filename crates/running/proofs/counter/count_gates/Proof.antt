@@ -1,46 +1,56 @@
-use Prim.Native.Nat.{_-_, _≤_}
+use Prim.Native.Nat.{_+_, _-_, _≤_}
 use native.Mathlib.Omega.{arith}
 use borrow.Author.Needs.{needs}
-use Rattle.running.proofs.Loops.{Counting, count-starts, four-inside, few-gates, count-goes-on, count-ends}
+use Rattle.circuit.specs.Bytes.{Bytes}
+use Rattle.circuit.proofs.Files.{GoodFile, good-file}
+use Rattle.circuit.proofs.Walks.{Walk, walk-starts, walk-goes-on}
+use Rattle.running.specs.Working.{countStep}
+use Rattle.running.proofs.Counts.{one-counted}
+use Rattle.running.proofs.Loops.{count-ends}
+use Rattle.running.proofs.Stepping.{count-stepped}
 use Rattle.running.proofs.counter.count_gates.Statement.{statement}
 use Rattle.running.proofs.counter.count_gates.Tie as tie
 
 abbrev Inv-loop : tie.InvT-loop
-Inv-loop file gates cnots₀ score₀ i₀ cnots score i = (i ≤ gates) × Counting file cnots score i
+Inv-loop file gates cnots₀ score₀ i₀ cnots score i = Walk countStep file (0, 0) (cnots, score) i × (cnots + score ≤ i)
 
 abbrev μ-loop : tie.MeasureT-loop
 μ-loop file gates cnots₀ score₀ i₀ cnots score i = gates - i
 
+abbrev start : tie.At-loop Inv-loop μ-loop → tie.Start Inv-loop μ-loop
+start c = c .before .before
+
+abbrev loop : tie.After-good-gate Inv-loop μ-loop → tie.At-loop Inv-loop μ-loop
+loop c = c .before .before
+
+bytes : (c : tie.At-loop Inv-loop μ-loop) → Bytes (start c .args .file .now)
+bytes c j = c .before .shared-slice-known .given j .fits
+
+good : (c : tie.At-loop Inv-loop μ-loop) → GoodFile (start c .args .file .now)
+good c = good-file 0 (start c .args .file .now) (start c .pre .0)
+
 loop-holds : tie.Need-loop-holds Inv-loop μ-loop
-loop-holds c = (omega arith, count-starts (c .before .args .file .now))
+loop-holds c = (walk-starts countStep (c .before .args .file .now) (0, 0), omega arith)
 
-mul-four : tie.Need-mul-four Inv-loop μ-loop
-mul-four c =
-    let at = c .before in
-    omega (arith, few-gates (at .before .before .args .file .now) (λ j. at .before .shared-slice-known .given j .fits) (at .before .before .pre .0) (at .loop .i))
+good-gate-requires : tie.Need-good-gate-requires Inv-loop μ-loop
+good-gate-requires c κs = search needs
 
-add-four : tie.Need-add-four Inv-loop μ-loop
-add-four c =
-    let at = c .before in
-    omega (arith, few-gates (at .before .before .args .file .now) (λ j. at .before .shared-slice-known .given j .fits) (at .before .before .pre .0) (at .loop .i))
-
-four-requires : tie.Need-four-requires Inv-loop μ-loop
-four-requires c κs =
-    let at = c .before in
-    four-inside (at .before .before .args .file .now) (λ j. at .before .shared-slice-known .given j .fits) (at .before .before .pre .0) (at .loop .i) (omega arith)
+one-cnot-requires : tie.Need-one-cnot-requires Inv-loop μ-loop
+one-cnot-requires c κs = search needs
 
 add-cnots : tie.Need-add-cnots Inv-loop μ-loop
 add-cnots c =
-    let at = c .before .before in
-    omega (arith, at .loop .inv .1 .few, few-gates (at .before .before .args .file .now) (λ j. at .before .shared-slice-known .given j .fits) (at .before .before .pre .0) (at .loop .i))
+    let at = loop (c .before) in
+    omega (arith, at .loop .inv .1, good at .count, start at .pre .1, one-counted (c .before .good-gate .result), c .one-cnot .ensures)
 
 one-scored-requires : tie.Need-one-scored-requires Inv-loop μ-loop
 one-scored-requires c κs = search needs
 
 add-score : tie.Need-add-score Inv-loop μ-loop
 add-score c =
-    let at = c .before .before .before in
-    omega (arith, count-goes-on (at .before .before .args .file .now) (λ j. at .before .shared-slice-known .given j .fits) (at .before .before .pre .0) (at .loop .i) (at .loop .cnots) (at .loop .score) (c .before .four .result) (c .one-scored .result) (omega arith) (c .before .four .ensures) (c .one-scored .ensures) (at .loop .inv .1) .few, few-gates (at .before .before .args .file .now) (λ j. at .before .shared-slice-known .given j .fits) (at .before .before .pre .0) (at .loop .i))
+    let taken = c .before .before in
+    let at = loop taken in
+    omega (arith, at .loop .inv .1, good at .count, start at .pre .1, one-counted (taken .good-gate .result), c .one-scored .ensures)
 
 add-i : tie.Need-add-i Inv-loop μ-loop
 add-i c = omega arith
@@ -50,27 +60,34 @@ loop-less c = omega arith
 
 loop-again : tie.Need-loop-again Inv-loop μ-loop
 loop-again c =
-    let at = c .before .before .before in
-    let a = at .before .before .args in
-    (omega arith, count-goes-on (a .file .now) (λ j. at .before .shared-slice-known .given j .fits) (at .before .before .pre .0) (at .loop .i) (at .loop .cnots) (at .loop .score) (c .before .four .result) (c .one-scored .result) (omega arith) (c .before .four .ensures) (c .one-scored .ensures) (at .loop .inv .1))
+    let taken = c .before .before in
+    let at = loop taken in
+    let a = start at .args in
+    let g = taken .good-gate .result in
+    let x = c .before .one-cnot in
+    let y = c .one-scored in (
+      walk-goes-on (a .file .now) (bytes at) (good at) (at .loop .i) g (omega (arith, start at .pre .1)) (taken .good-gate .ensures) countStep (0, 0) (at .loop .cnots, at .loop .score) (at .loop .cnots + x .result, at .loop .score + y .result)
+          (count-stepped g (at .loop .cnots) (at .loop .score) (x .result) (y .result) (x .ensures) (y .ensures)) (at .loop .inv .0),
+      omega (arith, at .loop .inv .1, one-counted g, x .ensures, y .ensures),
+    )
 
 cast-phases : tie.Need-cast-phases Inv-loop μ-loop
 cast-phases c = search needs
 
 sub-phases : tie.Need-sub-phases Inv-loop μ-loop
-sub-phases c = omega (arith, c .before .loop .inv .1 .few)
+sub-phases c = omega (arith, c .before .loop .inv .1, c .before .loop .inv .0 .within, start (c .before) .pre .1)
 
-cast-t12 : tie.Need-cast-t12 Inv-loop μ-loop
-cast-t12 c = search needs
+cast-t10 : tie.Need-cast-t10 Inv-loop μ-loop
+cast-t10 c = search needs
 
-cast-t13 : tie.Need-cast-t13 Inv-loop μ-loop
-cast-t13 c = search needs
+cast-t11 : tie.Need-cast-t11 Inv-loop μ-loop
+cast-t11 c = search needs
 
 returns : tie.Need-returns Inv-loop μ-loop
 returns c =
     let at = c .before in
-    let a = at .before .before .args in
-    count-ends (a .file .now) (λ j. at .before .shared-slice-known .given j .fits) (at .before .before .pre .0) (at .loop .i) (at .loop .cnots) (at .loop .score) (a .gates) (at .before .before .pre .1) (omega arith) (at .loop .inv .1)
+    let a = start at .args in
+    count-ends (a .file .now) (bytes at) (good at) (at .loop .i) (omega (arith, start at .pre .1)) (a .gates) (at .loop .cnots) (at .loop .score) (start at .pre .1) (at .loop .inv .0)
 
 pub count-gates-spec : {M : Type 1} → statement M
 count-gates-spec =
@@ -79,9 +96,8 @@ count-gates-spec =
     Inv-loop
     μ-loop
     loop-holds
-    mul-four
-    add-four
-    four-requires
+    good-gate-requires
+    one-cnot-requires
     add-cnots
     one-scored-requires
     add-score
@@ -90,6 +106,6 @@ count-gates-spec =
     loop-again
     cast-phases
     sub-phases
-    cast-t12
-    cast-t13
+    cast-t10
+    cast-t11
     returns)

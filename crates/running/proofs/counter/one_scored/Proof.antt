@@ -1,17 +1,26 @@
-use native.Mathlib.Omega.{arith}
-use Rattle.running.proofs.Stepping.{scored-none, scored-some}
+use native.Mathlib.Nat.{add-zero}
+use mathlib.Core.Path.{sym, _∙_}
+use Rattle.running.specs.Run.{scores, score}
 use borrow.Author.Needs.{needs}
 use Rattle.running.proofs.counter.one_scored.Statement.{statement}
 use Rattle.running.proofs.counter.one_scored.Tie as tie
 
-sub-result : tie.Need-sub-result
-sub-result c = search needs
+enum-told : tie.Need-enum-told
+enum-told c = search needs
+
+enum-known-gate : tie.Need-enum-known-gate
+enum-known-gate c = search needs
+
+scored-requires : tie.Need-scored-requires
+scored-requires c κs = search needs
 
 returns : tie.Need-returns
-returns c = let z = scored-none _ (c .if1 .taken) in omega arith
+unfolding score
+returns c = rw (c .enum-told .given .1)
 
 returns-2 : tie.Need-returns-2
-returns-2 c = let z = scored-some _ (c .if1 .left) in omega arith
+unfolding score
+returns-2 c = rw (c .before .before .gate .given .1) (c .scored .ensures ∙ sym (add-zero (scores (c .before .before .gate .given .0 .1 .0))))
 
 pub one-scored-spec : {M : Type 1} → statement M
-one-scored-spec = tie.close (tie.spec sub-result returns returns-2)
+one-scored-spec = tie.close (tie.spec enum-told enum-known-gate scored-requires returns returns-2)

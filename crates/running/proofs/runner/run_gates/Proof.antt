@@ -1,44 +1,53 @@
-use Prim.Native.Nat.{_-_, _≤_}
+use Prim.Native.Nat.{_-_}
 use native.Mathlib.Omega.{arith}
 use borrow.Author.Needs.{needs}
-use Rattle.running.proofs.Loops.{Running, run-starts, four-inside, few-gates, run-goes-on, run-ends}
+use Rattle.circuit.specs.Bytes.{Bytes}
+use Rattle.circuit.specs.Gates.{Sound}
+use Rattle.circuit.proofs.Files.{GoodFile, good-file}
+use Rattle.circuit.proofs.Walks.{Walk, walk-starts, next-sound, walk-goes-on}
+use Rattle.running.specs.Working.{runStep}
+use Rattle.running.proofs.Stepping.{run-stepped}
+use Rattle.running.proofs.Loops.{run-ends}
 use Rattle.running.proofs.runner.run_gates.Statement.{statement}
 use Rattle.running.proofs.runner.run_gates.Tie as tie
 
 abbrev Inv-loop : tie.InvT-loop
-Inv-loop file gates start state₀ phase₀ i₀ state phase i = (i ≤ gates) × Running file start state phase i
+Inv-loop file gates start state₀ phase₀ i₀ state phase i = Walk runStep file (start, 0) (state, phase) i
 
 abbrev μ-loop : tie.MeasureT-loop
 μ-loop file gates start state₀ phase₀ i₀ state phase i = gates - i
 
+abbrev start : tie.At-loop Inv-loop μ-loop → tie.Start Inv-loop μ-loop
+start c = c .before .before
+
+abbrev loop : tie.After-good-gate Inv-loop μ-loop → tie.At-loop Inv-loop μ-loop
+loop c = c .before .before
+
+bytes : (c : tie.At-loop Inv-loop μ-loop) → Bytes (start c .args .file .now)
+bytes c j = c .before .shared-slice-known .given j .fits
+
+good : (c : tie.At-loop Inv-loop μ-loop) → GoodFile (start c .args .file .now)
+good c = good-file 0 (start c .args .file .now) (start c .pre .0)
+
+sound : (c : tie.After-good-gate Inv-loop μ-loop) → Sound 10 (c .good-gate .result)
+sound c =
+    let at = loop c in
+    next-sound (start at .args .file .now) (bytes at) (good at) (at .loop .i) (c .good-gate .result) (omega (arith, start at .pre .1)) (c .good-gate .ensures)
+
 loop-holds : tie.Need-loop-holds Inv-loop μ-loop
-loop-holds c = (omega arith, run-starts (c .before .args .file .now) (c .before .args .start) (omega arith))
+loop-holds c = walk-starts runStep (c .before .args .file .now) (c .before .args .start, 0)
 
-mul-four : tie.Need-mul-four Inv-loop μ-loop
-mul-four c =
-    let at = c .before in
-    omega (arith, few-gates (at .before .before .args .file .now) (λ j. at .before .shared-slice-known .given j .fits) (at .before .before .pre .0) (at .loop .i))
-
-add-four : tie.Need-add-four Inv-loop μ-loop
-add-four c =
-    let at = c .before in
-    omega (arith, few-gates (at .before .before .args .file .now) (λ j. at .before .shared-slice-known .given j .fits) (at .before .before .pre .0) (at .loop .i))
-
-four-requires : tie.Need-four-requires Inv-loop μ-loop
-four-requires c κs =
-    let at = c .before in
-    four-inside (at .before .before .args .file .now) (λ j. at .before .shared-slice-known .given j .fits) (at .before .before .pre .0) (at .loop .i) (omega arith)
+good-gate-requires : tie.Need-good-gate-requires Inv-loop μ-loop
+good-gate-requires c κs = search needs
 
 turn-requires : tie.Need-turn-requires Inv-loop μ-loop
-turn-requires c κs = search needs
+turn-requires c κs = sound c
 
-add-phase : tie.Need-add-phase Inv-loop μ-loop
-add-phase c =
-    let at = c .before .before .before in
-    omega (arith, at .loop .inv .1 .small, c .turn .ensures .1, few-gates (at .before .before .args .file .now) (λ j. at .before .shared-slice-known .given j .fits) (at .before .before .pre .0) (at .loop .i))
+wrapping-add-u16-requires : tie.Need-wrapping-add-u16-requires Inv-loop μ-loop
+wrapping-add-u16-requires c κs = search needs
 
 step-requires : tie.Need-step-requires Inv-loop μ-loop
-step-requires c κs = search needs
+step-requires c κs = sound (c .before .before)
 
 add-i : tie.Need-add-i Inv-loop μ-loop
 add-i c = omega arith
@@ -48,23 +57,19 @@ loop-less c = omega arith
 
 loop-again : tie.Need-loop-again Inv-loop μ-loop
 loop-again c =
-    let turn = c .before in
-    let x = turn .before in
-    let at = x .before .before in
-    let a = at .before .before .args in
-    (omega arith, run-goes-on (a .file .now) (λ j. at .before .shared-slice-known .given j .fits) (at .before .before .pre .0) (at .loop .i) (a .start) (at .loop .state) (at .loop .phase) (x .four .result) (turn .turn .result) (c .step .result) (omega arith) (x .four .ensures) (turn .turn .ensures .0) (turn .turn .ensures .1) (c .step .ensures) (at .loop .inv .1))
-
-cast-t12 : tie.Need-cast-t12 Inv-loop μ-loop
-cast-t12 c = omega (arith, c .before .loop .inv .1 .below)
-
-cast-t14 : tie.Need-cast-t14 Inv-loop μ-loop
-cast-t14 c = search needs
+    let added = c .before in
+    let turned = added .before in
+    let taken = turned .before in
+    let at = loop taken in
+    let a = start at .args in
+    walk-goes-on (a .file .now) (bytes at) (good at) (at .loop .i) (taken .good-gate .result) (omega (arith, start at .pre .1)) (taken .good-gate .ensures) runStep (a .start, 0) (at .loop .state, at .loop .phase) (c .step .result, added .wrapping-add-u16 .result)
+    (run-stepped (taken .good-gate .result) (at .loop .state) (at .loop .phase) (turned .turn .result) (c .step .result) (added .wrapping-add-u16 .result) (turned .turn .ensures) (c .step .ensures) (added .wrapping-add-u16 .ensures)) (at .loop .inv)
 
 returns : tie.Need-returns Inv-loop μ-loop
 returns c =
     let at = c .before in
-    let a = at .before .before .args in
-    run-ends (a .file .now) (λ j. at .before .shared-slice-known .given j .fits) (at .before .before .pre .0) (at .loop .i) (a .start) (at .loop .state) (at .loop .phase) (omega arith) (at .loop .inv .1)
+    let a = start at .args in
+    run-ends (a .file .now) (bytes at) (good at) (at .loop .i) (omega (arith, start at .pre .1)) (a .start) (at .loop .state) (at .loop .phase) (at .loop .inv)
 
 pub run-gates-spec : {M : Type 1} → statement M
 run-gates-spec =
@@ -73,15 +78,11 @@ run-gates-spec =
     Inv-loop
     μ-loop
     loop-holds
-    mul-four
-    add-four
-    four-requires
+    good-gate-requires
     turn-requires
-    add-phase
+    wrapping-add-u16-requires
     step-requires
     add-i
     loop-less
     loop-again
-    cast-t12
-    cast-t14
     returns)

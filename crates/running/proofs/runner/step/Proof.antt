@@ -1,21 +1,38 @@
 use native.Mathlib.Omega.{arith}
-use Prim.Native.Nat.{_/_, _%_}
-use Rattle.running.proofs.Stepping.{once, held, turned, bit-shifted}
+use mathlib.Core.Path.{subst}
+use Rattle.circuit.specs.Gates.{Sound}
+use Rattle.running.proofs.Stepping.{cnot-steps}
 use borrow.Author.Needs.{needs}
 use Rattle.running.proofs.runner.step.Statement.{statement}
 use Rattle.running.proofs.runner.step.Tie as tie
 
-flip-requires : tie.Need-flip-requires
-flip-requires c κs = search needs
+enum-known-gate : tie.Need-enum-known-gate
+enum-known-gate c = search needs
+
+abbrev start : tie.After-bit-of → tie.Start
+start c = c .before .before .before .before
+
+bit-of-requires : tie.Need-bit-of-requires
+bit-of-requires c κs = subst (Sound 10) (c .before .gate .given .1) (c .before .before .before .pre) .0
+
+cast-result : tie.Need-cast-result
+cast-result c = search needs
 
 shl-result : tie.Need-shl-result
-shl-result c = search needs
+shl-result c = omega (arith, subst (Sound 10) (c .before .before .gate .given .1) (start c .pre) .1)
+
+enum-told : tie.Need-enum-told
+enum-told c = search needs
 
 returns : tie.Need-returns
 returns c =
-    let a = c .before .args in
-    let l = once (held (a .x) (a .state)) (a .x % 2) 1 (omega arith) (omega arith) in
-    bit-shifted (a .state) (c .flip .result) (turned (a .x) (a .state)) (a .x / 65536 % 32) (c .flip .ensures) (omega (arith, c .flip .ensures)) (omega arith)
+    let v = c .before .before .gate .given in
+    cnot-steps (start c .args .gate) (start c .args .state) (c .bit-of .result) (start c .pre) (v .0 .0) (v .0 .1 .0) (v .1) (c .bit-of .ensures)
+
+returns-2 : tie.Need-returns-2
+returns-2 c = search needs
 
 pub step-spec : {M : Type 1} → statement M
-step-spec = tie.close (tie.spec flip-requires shl-result returns)
+step-spec =
+    tie.close
+    (tie.spec enum-known-gate bit-of-requires cast-result shl-result enum-told returns returns-2)

@@ -1,0 +1,36 @@
+-- The groups' totals, from what the reader says.
+use Prim.Native.Nat.{ℕ}
+use mathlib.Core.Path.{_≡_, ap, _∙_}
+use mathlib.Core.List.{List}
+use lib.ListN.{replicate}
+use Rattle.refusal.specs.declared.Refusal.{Refusal}
+use Rattle.refusal.specs.Checks.{passed, outcome}
+use Rattle.circuit.specs.declared.Reading.{Reading}
+use Rattle.circuit.specs.declared.Reading.the-variants.{Circuit, Refused}
+use Rattle.circuit.specs.Bytes.{Bytes}
+use Rattle.circuit.specs.File.{gatesOf, fileChecks, Reads}
+use Rattle.circuit.specs.Working.{walked}
+use Rattle.circuit.proofs.Files.{read-answers, read-refuses}
+use Rattle.running.specs.Masks.{mostWires, mostMasks, ownMasks}
+use Rattle.running.specs.Groups.{totalsOf, SumsGroups}
+use Rattle.running.specs.Working.{sumStep}
+use Rattle.running.proofs.Walks.{file-masks, file-totals}
+
+module _ (side : ℕ) (f totals masks : List ℕ) (answer : Reading) (says : Reads side f answer) where
+  pub groups-refused : (x : Refusal) → answer ≡ Refused x → SumsGroups side f totals masks answer totals masks
+  groups-refused x e = let r = read-refuses side f answer says x e in record { reads = says; sums = rw r; holds = rw r }
+
+  pub groups-summed : (w g : ℕ) (own held sums : List ℕ) → answer ≡ Circuit w g → Bytes f → own ≡ ownMasks mostWires
+      → (held, sums) ≡ walked sumStep (gatesOf f) (own, replicate mostMasks 0) → SumsGroups side f totals masks (Circuit w g) sums held
+  groups-summed w g own held sums e bytes o d =
+      let r = read-answers side f answer says w g e in
+      let z = d ∙ ap (λ (m : List ℕ). walked sumStep (gatesOf f) (m, replicate mostMasks 0)) o in
+      record {
+        reads = rw e at says;
+        sums = rw (r .passes) (file-totals f bytes (r .file) held sums z);
+        holds = rw (r .passes) (file-masks f bytes (r .file) held sums z);
+      }
+
+-- for a file that has passed: what the row holds
+pub group-totals : (side : ℕ) (f : List ℕ) {totals masks : List ℕ} {answer : Reading} {totals′ masks′ : List ℕ} → SumsGroups side f totals masks answer totals′ masks′ → outcome (fileChecks side f) ≡ passed → totals′ ≡ totalsOf f
+group-totals side f s e = rw e at (s .sums)

@@ -1,0 +1,68 @@
+use Rattle.running.proofs.Stepping.{mixed-adds, mask-adds}
+use borrow.Author.Needs.{needs}
+use Rattle.running.proofs.grouper.add_gate.Statement.{statement}
+use Rattle.running.proofs.grouper.add_gate.Tie as tie
+
+abbrev mixing : tie.After-mix → tie.Start
+mixing c = c .before .before .before .before .before .before .before
+
+abbrev phase : tie.After-mask-at → tie.After-gate2
+phase c = c .before .before .before
+
+abbrev meeting : tie.After-gate2 → tie.Start
+meeting c = c .before .before .before .before
+
+enum-known-gate : tie.Need-enum-known-gate
+enum-known-gate c = search needs
+
+mix-requires : tie.Need-mix-requires
+mix-requires c κs = search needs
+
+enum-known-gate-2 : tie.Need-enum-known-gate-2
+enum-known-gate-2 c = search needs
+
+mask-at-requires : tie.Need-mask-at-requires
+mask-at-requires c κs = search needs
+
+add-angle-requires : tie.Need-add-angle-requires
+add-angle-requires c κs = search needs
+
+same-length : tie.Need-same-length
+same-length c = search needs
+
+returns : tie.Need-returns
+returns c =
+    let done = c .before .before in
+    let a = mixing done .args in
+    let v = done .before .before .before .gate .given in
+    mixed-adds (a .gate) (a .masks .now) (a .totals .now) (v .0 .0) (v .0 .1 .0) (done .mix .last .0) (v .1) (done .mix .ensures)
+
+same-length-2 : tie.Need-same-length-2
+same-length-2 c = search needs
+
+same-length-3 : tie.Need-same-length-3
+same-length-3 c = search needs
+
+returns-2 : tie.Need-returns-2
+returns-2 c =
+    let done = c .before .before in
+    let found = done .before .before in
+    let told = phase found in
+    let a = meeting told .args in
+    let v = told .gate2 .given in
+    mask-adds (a .gate) (a .masks .now) (a .totals .now) (v .0 .0) (v .0 .1 .0) (found .mask-at .result) (done .add-angle .last .0) (v .1) (found .mask-at .ensures) (done .add-angle .ensures)
+
+pub add-gate-spec : {M : Type 1} → statement M
+add-gate-spec =
+    tie.close
+    (tie.spec
+    enum-known-gate
+    mix-requires
+    enum-known-gate-2
+    mask-at-requires
+    add-angle-requires
+    same-length
+    returns
+    same-length-2
+    same-length-3
+    returns-2)
