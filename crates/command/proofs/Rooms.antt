@@ -20,7 +20,7 @@ use Rattle.build.specs.Construction.{buildChecks}
 use Rattle.fold.specs.Fold.{folded, foldedFile, foldChecks}
 use Rattle.fold.proofs.Files.{few-gates}
 use Rattle.listing.specs.Listing.{listingOfFile, listChecks}
-use Rattle.listing.proofs.Pieces.{listing-short}
+use Rattle.listing.proofs.Lengths.{listing-short}
 use Rattle.verdict.specs.Judging.{compareChecks, judgeChecks}
 
 roomy : (cs : List Check) (room need : ℕ) → (outcome cs ≡ passed → need ≤ room) → outcome (cs ++ roomCheck room need) ≡ outcome cs

@@ -1,6 +1,8 @@
 pub mod Decimals
 pub mod Fractions
+pub mod Lengths
 mod Writing
-pub mod Pieces
+mod Pieces
 mod Loops
-pub mod Answers
+mod Answers
+pub mod Callers

@@ -12,7 +12,7 @@ use Rattle.circuit.proofs.Files.{GoodFile, file-sound, length-gates}
 use Rattle.circuit.proofs.Walks.{Walk}
 use Rattle.listing.specs.Listing.{gateLine, gateLines}
 use Rattle.listing.specs.Working.{longestLine}
-use Rattle.listing.proofs.Pieces.{lines-short}
+use Rattle.listing.proofs.Lengths.{lines-short}
 
 -- a gate makes the length longer by its line's
 abbrev pub longer : Gate → ℕ → ℕ

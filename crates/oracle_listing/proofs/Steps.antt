@@ -25,7 +25,7 @@ use Rattle.build.proofs.Oracles.{built-long, built-passes, built-gates, built-w
 use Rattle.build.proofs.Circuits.{sound-construction}
 use Rattle.circuit.specs.Gates.{AllSound}
 use Rattle.circuit.proofs.Files.{list-written, wires-written, length-file}
-use Rattle.listing.proofs.Pieces.{listing-short}
+use Rattle.listing.proofs.Lengths.{listing-short}
 use Rattle.fold.specs.declared.Folded.{Folded}
 use Rattle.fold.specs.declared.Folded.the-variants.{File, Refused as FoldRefused}
 use Rattle.fold.specs.Fold.{foldedFile, foldedSays, folded, Folds}

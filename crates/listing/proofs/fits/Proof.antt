@@ -9,7 +9,7 @@ use Rattle.circuit.specs.File.{countOf, gatesOf}
 use Rattle.circuit.proofs.Files.{GoodFile, good-file}
 use Rattle.listing.specs.Listing.{gateLines, listingOf, listingOfFile}
 use Rattle.listing.specs.Working.{longestLine}
-use Rattle.listing.proofs.Pieces.{head-short, wrap-short, listing-length}
+use Rattle.listing.proofs.Lengths.{head-short, wrap-short, listing-length}
 use Rattle.listing.proofs.Loops.{lines-fit}
 use borrow.Author.Needs.{needs}
 use Rattle.listing.proofs.fits.Statement.{statement}

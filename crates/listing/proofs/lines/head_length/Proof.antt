@@ -1,5 +1,5 @@
 use native.Mathlib.Omega.{arith}
-use Rattle.listing.proofs.Pieces.{head-long}
+use Rattle.listing.proofs.Lengths.{head-long}
 use borrow.Author.Needs.{needs}
 use Rattle.listing.proofs.lines.head_length.Statement.{statement}
 use Rattle.listing.proofs.lines.head_length.Tie as tie

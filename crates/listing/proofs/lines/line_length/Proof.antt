@@ -3,7 +3,8 @@ use native.Mathlib.Omega.{arith}
 use mathlib.Core.Path.{ap}
 use lib.ListN.{length}
 use Rattle.listing.specs.Fractions.{over}
-use Rattle.listing.proofs.Pieces.{cnot-said, phase-said, cnot-long, phase-long}
+use Rattle.listing.proofs.Pieces.{cnot-said, phase-said}
+use Rattle.listing.proofs.Lengths.{cnot-long, phase-long}
 use borrow.Author.Needs.{needs}
 use Rattle.listing.proofs.lines.line_length.Statement.{statement}
 use Rattle.listing.proofs.lines.line_length.Tie as tie

@@ -4,7 +4,7 @@ use mathlib.Core.Path.{_≡_, ap}
 use mathlib.Core.Bool.{Bool}
 use lib.ListN.{length}
 use Rattle.listing.specs.Listing.{wrapLine}
-use Rattle.listing.proofs.Pieces.{wrap-long, no-wrap-long}
+use Rattle.listing.proofs.Lengths.{wrap-long, no-wrap-long}
 use borrow.Author.Needs.{needs}
 use Rattle.listing.proofs.lines.wrap_length.Statement.{statement}
 use Rattle.listing.proofs.lines.wrap_length.Tie as tie
