@@ -1,7 +1,7 @@
 -- The lines of a good file's gates as the two loops go over them: their length is added up, and they are written, one step a gate.
 use Prim.Native.Nat.{ℕ, _+_, _*_, _≤_}
 use native.Mathlib.Omega.{arith}
-use mathlib.Core.Path.{_≡_, refl, sym, ap, _∙_}
+use mathlib.Core.Path.{_≡_, refl, ap, _∙_}
 use mathlib.Core.List.{List, [], _∷_, _++_}
 use lib.ListN.{length, drop, length-append}
 use Rattle.circuit.specs.declared.Gate.{Gate}

@@ -2,7 +2,7 @@ use mathlib.Core.Path.{sym}
 use lib.Seq.{length-take-le}
 use Rattle.table.specs.Table.{tableChecks}
 use Rattle.build.specs.Construction.{builtFile}
-use Rattle.oracle_listing.proofs.Steps.{Ready, build-ready, build-refuses, table-refused, table-listed}
+use Rattle.oracle_listing.proofs.Steps.{Ready, build-ready, table-refuses, table-refused, table-listed}
 use borrow.Author.Needs.{needs}
 use Rattle.oracle_listing.proofs.of_table.Statement.{statement}
 use Rattle.oracle_listing.proofs.of_table.Tie as tie
@@ -60,7 +60,7 @@ returns c =
     let a = start d .args in
     let r = f .refusal .given .0 .0 in
     table-refused (a .n) (a .table .now) (a .out .now) r
-    (build-refuses (a .n) (a .table .now) (room d .built-room .result) (room d .built-room .ensures) (d .build .result) (d .build .last .1 .1 .0) (d .build .ensures) r (f .refusal .given .1))
+    (table-refuses (a .n) (a .table .now) (room d .built-room .result) (room d .built-room .ensures) (d .build .result) (d .build .last .1 .1 .0) (d .build .ensures) r (f .refusal .given .1))
 
 same-length : tie.Need-same-length
 same-length c = search needs
