@@ -1,29 +1,24 @@
--- A file and its gate list are each other's; what callers of the reader know when it answers and when it refuses.
-use Prim.Native.Nat.{ℕ, suc, _+_, _-_, _*_, _/_, _%_, _^_, _<_, _≤_}
+-- A file and its gate list are each other's.
+use Prim.Native.Nat.{ℕ, suc, _+_, _-_, _*_, _/_, _%_, _<_, _≤_}
 use native.Mathlib.Nat.{zero-add, add-zero}
 use native.Mathlib.Numerals.{add-one}
 use native.Mathlib.Omega.{arith}
 use mathlib.Core.Bool.{true, false}
 use mathlib.Core.Path.{_≡_, refl, sym, ap, ap₂, subst, subst₂, _∙_}
 use mathlib.Core.List.{List, [], _∷_}
-use lib.Pow.{pow-mono}
 use lib.ListN.{length, getD, drop, length-drop, drop-of-length-le}
 use lib.Seq.{drop-drop, getD-drop}
 use borrow.Author.Tests.{le-leb, lt-leb}
-use Rattle.refusal.specs.declared.Refusal.{Refusal}
-use Rattle.refusal.specs.Checks.{passed, refused, outcome}
-use Rattle.refusal.proofs.Passed.{passed-fail, fail-passed}
-use Rattle.refusal.proofs.Contracts.{says-refused, says-values}
+use Rattle.refusal.specs.Checks.{passed, outcome}
 use Rattle.circuit.specs.declared.Gate.{Gate}
 use Rattle.circuit.specs.declared.Gate.the-variants.{Phase}
 use Rattle.circuit.specs.declared.Decoded.{Decoded}
 use Rattle.circuit.specs.declared.Decoded.the-variants.{Bad}
-use Rattle.circuit.specs.declared.Reading.{Reading}
-use Rattle.circuit.specs.declared.Reading.the-variants.{Circuit, Refused}
 use Rattle.circuit.specs.Gates.{good, decoded, decodedAt, gateBytes, bytesOf, gatesFrom, firstBad, Sound, AllSound}
 use Rattle.circuit.specs.Working.{bad, gateSaid, fourAt, saidAt}
-use Rattle.circuit.specs.File.{markOf, versionOf, wiresOf, countOf, gatesOf, badOf, gateAt, fileChecks, fileOf, Reads}
+use Rattle.circuit.specs.File.{wiresOf, countOf, gatesOf, gateAt, fileChecks, fileOf}
 use Rattle.circuit.specs.Bytes.{Bytes}
+use Rattle.circuit.proofs.Callers.{GoodFile, file-passes}
 use Rattle.circuit.proofs.Decoding.{first-bad, first-good, bytes-drop, Listed, listed, gate-at, bytes-said, is-bad, is-good, front, first-written, gates-written, length-bytes}
 
 -- four bytes at i: what the decoder makes of them, and what they say, where they lie in the file and where they do not
@@ -70,44 +65,6 @@ module _ (f : List ℕ) (n i : ℕ) (k : i < n) (b : List ℕ) (e : b ≡ fourAt
 pub search-done : (f : List ℕ) (n i : ℕ) → i ≡ n → i ≡ firstBad (wiresOf f) (n - i) i (drop (8 + 4 * i) f)
 unfolding firstBad
 search-done f n i e = let z : n - i ≡ 0 = omega arith in rw z
-
--- a file that passes every check
-pub record GoodFile (f : List ℕ) : Type 0 where
-  pub long : 8 ≤ length f
-  pub mark : markOf f ≡ 0x504847
-  pub version : versionOf f ≡ 1
-  pub some : 1 ≤ wiresOf f
-  pub few : wiresOf f ≤ 10
-  pub count : countOf f ≤ 2048
-  pub whole : length f ≡ 8 + 4 * countOf f
-  pub gates : countOf f ≤ badOf f
-
-pub good-file : (s : ℕ) (f : List ℕ) → outcome (fileChecks s f) ≡ passed → GoodFile f
-good-file s f e =
-    let h = passed-fail (fileChecks s f) e in
-    let r = h .1 .1 .1 in
-    record {
-      long = h .0;
-      mark = h .1 .0;
-      version = h .1 .1 .0;
-      some = omega (arith, r .0);
-      few = r .1 .0;
-      count = r .1 .1 .0;
-      whole = r .1 .1 .1 .0;
-      gates = r .1 .1 .1 .1 .0;
-    }
-
-pub file-passes : (s : ℕ) (f : List ℕ) → GoodFile f → outcome (fileChecks s f) ≡ passed
-file-passes s f h =
-    fail-passed (fileChecks s f) (h .long, (h .mark, (h .version, (omega (arith, h .some), (h .few, (h .count, (h .whole, (h .gates, tt))))))))
-
--- passing at one side is passing at any
-pub passes-anywhere : (s t : ℕ) (f : List ℕ) → outcome (fileChecks s f) ≡ passed → outcome (fileChecks t f) ≡ passed
-passes-anywhere s t f e = file-passes t f (good-file s f e)
-
--- a good file's states, sets and masks are fewer than 1,024
-pub few-states : (s : ℕ) (f : List ℕ) → outcome (fileChecks s f) ≡ passed → 2 ^ wiresOf f ≤ 1024
-few-states s f e = pow-mono {i = wiresOf f} {j = 10} (good-file s f e .few)
 
 module _ (w : ℕ) (gs : List Gate) where
   pub wires-written : wiresOf (fileOf w gs) ≡ w
@@ -199,20 +156,3 @@ module _ (f : List ℕ) (bytes : Bytes f) (h : GoodFile f) where
   -- at the count the list is at its end
   pub gates-end : (i : ℕ) → countOf f ≤ i → drop i (gatesOf f) ≡ []
   gates-end i k = drop-of-length-le (gatesOf f) {i = i} (omega (arith, length-gates))
-
--- what a caller of the reader knows when it answers
-pub record Answered (s : ℕ) (f : List ℕ) (w g : ℕ) : Type 0 where
-  pub passes : outcome (fileChecks s f) ≡ passed
-  pub file : GoodFile f
-  pub wires : w ≡ wiresOf f
-  pub count : g ≡ countOf f
-
-module _ (s : ℕ) (f : List ℕ) (r : Reading) (says : Reads s f r) where
-  pub read-answers : (w g : ℕ) → r ≡ Circuit w g → Answered s f w g
-  read-answers w g e =
-      let v = says-values (outcome (fileChecks s f)) (wiresOf f ∷ countOf f ∷ []) (w ∷ g ∷ []) (rw e at says) in
-      record { passes = v .0; file = good-file s f (v .0); wires = cc (v .1); count = cc (v .1) }
-
-  -- and when it refuses
-  pub read-refuses : (x : Refusal) → r ≡ Refused x → outcome (fileChecks s f) ≡ refused x
-  read-refuses x e = says-refused (outcome (fileChecks s f)) (wiresOf f ∷ countOf f ∷ []) x (rw e at says)

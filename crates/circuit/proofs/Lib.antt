@@ -1,6 +1,6 @@
+pub mod Callers
 pub mod Decoding
 pub mod Files
-pub mod Answers
 mod Checking
 pub mod Writing
 pub mod Parts

@@ -3,7 +3,7 @@ use Prim.Native.Nat.{ℕ, suc, _+_, _<_, _≤_}
 use native.Mathlib.Numerals.{add-one}
 use native.Mathlib.Omega.{arith}
 use mathlib.Core.Path.{_≡_, refl, sym, ap, subst, _∙_}
-use mathlib.Core.List.{List, [], _∷_, _++_}
+use mathlib.Core.List.{List, _∷_, _++_}
 use lib.ListN.{length, drop}
 use Rattle.circuit.specs.declared.Gate.{Gate}
 use Rattle.circuit.specs.Bytes.{Bytes, Wrote}
@@ -11,7 +11,8 @@ use Rattle.circuit.specs.Gates.{Sound}
 use Rattle.circuit.specs.File.{wiresOf, countOf, gatesOf}
 use Rattle.circuit.specs.Working.{saidAt, walked, written}
 use Rattle.circuit.proofs.Decoding.{sound-wider}
-use Rattle.circuit.proofs.Files.{GoodFile, gate-said, gates-end}
+use Rattle.circuit.proofs.Callers.{GoodFile}
+use Rattle.circuit.proofs.Files.{gate-said, gates-end}
 use Rattle.circuit.proofs.Parts.{Left, all-left, room, less-left, none-left}
 
 -- at position i: the rest of the gates still makes of the state what all of them make of the first

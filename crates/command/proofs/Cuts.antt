@@ -17,7 +17,7 @@ use Rattle.refusal.proofs.Outcomes.{holds-false, reaches}
 use Rattle.refusal.proofs.Passed.{passed-fail}
 use Rattle.table.specs.Table.{lengthFor, unused, tableChecks}
 use Rattle.circuit.specs.File.{markOf, versionOf, wiresOf, countOf, badOf, fileChecks}
-use Rattle.circuit.proofs.Files.{good-file}
+use Rattle.circuit.proofs.Callers.{good-file}
 use Rattle.command.specs.Digits.{byteAt, bytesOf}
 
 -- two lists that differ only behind a check, and a check that passes

@@ -11,10 +11,11 @@ use Rattle.refusal.specs.Names.{refusal, UNLIKE}
 use Rattle.refusal.specs.Checks.{Check, check, other, Outcome, passed, refused, outcome, roomCheck}
 use Rattle.refusal.proofs.Outcomes.{reaches, then-refused, then-passed, front-passes}
 use Rattle.table.specs.Table.{tableChecks}
-use Rattle.table.proofs.Tables.{good-variables}
+use Rattle.table.proofs.Callers.{good-variables}
 use Rattle.circuit.specs.File.{wiresOf, gatesOf, fileChecks}
 use Rattle.circuit.specs.Bytes.{Bytes}
-use Rattle.circuit.proofs.Files.{good-file, file-sound, length-gates, length-file}
+use Rattle.circuit.proofs.Callers.{good-file}
+use Rattle.circuit.proofs.Files.{file-sound, length-gates, length-file}
 use Rattle.spectrum.specs.Spectrum.{spectrumChecks}
 use Rattle.build.specs.Construction.{buildChecks}
 use Rattle.fold.specs.Fold.{folded, foldedFile, foldChecks}

@@ -1,4 +1,4 @@
--- The operation's three ways out, and that it has one answer and one slice.
+-- The operation's three ways out.
 use Prim.Native.Nat.{ℕ, _+_, _*_, _^_, _<_, _≤_}
 use native.Mathlib.Nat.{zero-add}
 use native.Mathlib.Omega.{arith}
@@ -12,13 +12,13 @@ use Rattle.refusal.specs.declared.Refusal.{Refusal}
 use Rattle.refusal.specs.Names.{refusal, ROOM}
 use Rattle.refusal.specs.Checks.{passed, refused, outcome}
 use Rattle.refusal.specs.Contract.{values}
-use Rattle.refusal.proofs.Contracts.{Distinct, same-refusal}
 use Rattle.refusal.proofs.Rooms.{earlier-refused, room-refused, room-enough}
 use Rattle.circuit.specs.Bytes.{putAt, Bytes}
 use Rattle.circuit.specs.Gates.{bytesOf}
 use Rattle.circuit.specs.File.{wiresOf, gatesOf, fileChecks, fileOf, headerBytes}
 use Rattle.running.specs.Run.{scores, cnots, score}
-use Rattle.circuit.proofs.Files.{good-file, length-file}
+use Rattle.circuit.proofs.Callers.{good-file}
+use Rattle.circuit.proofs.Files.{length-file}
 use Rattle.circuit.proofs.Writing.{put-fits, put-put}
 use Rattle.fold.specs.declared.Folded.{Folded}
 use Rattle.fold.specs.declared.Folded.the-variants.{File, Refused}
@@ -87,9 +87,3 @@ module _ (f before : List ℕ) (fits : length (foldedFile f) ≤ length before) 
       q ∙ ap (putAt (bytesOf gs) 8) (p ∙ ap (λ (n : ℕ). putAt (headerBytes (wiresOf f) n) 0 before) e)
       ∙ put-put (headerBytes (wiresOf f) (length gs)) (bytesOf gs) 0 before (rw (zero-add (length (foldedFile f))) fits)
       ∙ put-fits (foldedFile f) 0 before (rw (zero-add (length (foldedFile f))) fits) ∙ ap (λ (n : ℕ). foldedFile f ++ drop n before) (zero-add (length (foldedFile f)))
-
-pub folded-distinct : Distinct foldedSays
-folded-distinct (File l b a) (File m c d) e = cc
-folded-distinct (File l b a) (Refused r) e = cc
-folded-distinct (Refused r) (File m c d) e = cc
-folded-distinct (Refused r) (Refused s) e = ap Refused (same-refusal r s e)

@@ -10,7 +10,8 @@ use Rattle.circuit.specs.Gates.{AllSound}
 use Rattle.circuit.specs.File.{wiresOf, gatesOf, fileChecks, fileOf}
 use Rattle.running.specs.Run.{endFrom, phaseFrom}
 use Rattle.circuit.specs.Bytes.{Bytes}
-use Rattle.circuit.proofs.Files.{good-file, file-sound, length-gates, wires-written, list-written, written-passes}
+use Rattle.circuit.proofs.Callers.{good-file}
+use Rattle.circuit.proofs.Files.{file-sound, length-gates, wires-written, list-written, written-passes}
 use Rattle.fold.specs.Fold.{folded, foldedFile, cnotsOf}
 use Rattle.fold.proofs.Folding.{folded-sound, folded-shorter, folded-twice, same-cnots, same-end, same-phase}
 

@@ -94,7 +94,7 @@ module _ (w : ℕ) (gs : List Gate) where
   folded-total h x = ≈-of (total-parity w (folded w gs) (folded-sound h) x) ≈∙ fold-sum (λ m. dot m x) ≈∙ ≈-of (sym (total-parity w gs h x))
 
   pub same-phase : AllSound w gs → (x : ℕ) → phaseFrom (folded w gs) x ≡ phaseFrom gs x
-  same-phase h x = folded-total h x .turned
+  same-phase h x = folded-total h x .alike
 
   -- folding the folded list changes nothing
   pub folded-twice : folded w (folded w gs) ≡ folded w gs

@@ -1,8 +1,9 @@
+pub mod Callers
 pub mod Remaining
 pub mod Positions
 pub mod Folding
 pub mod Scores
 pub mod Files
-pub mod Answers
+mod Answers
 mod Stepping
 mod Writing

@@ -13,8 +13,9 @@ use Rattle.circuit.specs.Gates.{gateBytes, bytesOf}
 use Rattle.circuit.specs.File.{wiresOf, gatesOf}
 use Rattle.circuit.specs.Working.{written}
 use Rattle.circuit.proofs.Decoding.{bytes-one, bytes-append, length-bytes}
-use Rattle.circuit.proofs.Files.{GoodFile, file-sound}
-use Rattle.circuit.proofs.Parts.{wrote-same, wrote-nothing}
+use Rattle.circuit.proofs.Callers.{GoodFile}
+use Rattle.circuit.proofs.Files.{file-sound}
+use Rattle.circuit.proofs.Parts.{wrote-nothing}
 use Rattle.running.specs.Masks.{mostWires, ownMasks, masksAfter, met}
 use Rattle.running.specs.Groups.{groupTotal, totalsOf}
 use Rattle.running.proofs.Masks.{own-alike}

@@ -8,7 +8,8 @@ use Rattle.circuit.specs.declared.Gate.{Gate}
 use Rattle.circuit.specs.File.{wiresOf, countOf, gatesOf}
 use Rattle.circuit.specs.Bytes.{Bytes}
 use Rattle.circuit.specs.Working.{walked, written}
-use Rattle.circuit.proofs.Files.{GoodFile, file-sound, length-gates}
+use Rattle.circuit.proofs.Callers.{GoodFile}
+use Rattle.circuit.proofs.Files.{file-sound, length-gates}
 use Rattle.circuit.proofs.Walks.{Walk}
 use Rattle.listing.specs.Listing.{gateLine, gateLines}
 use Rattle.listing.specs.Working.{longestLine}

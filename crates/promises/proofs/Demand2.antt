@@ -11,7 +11,7 @@ use Rattle.refusal.specs.Checks.{passed, outcome}
 use Rattle.refusal.proofs.Outcomes.{front-passes}
 use Rattle.refusal.proofs.Contracts.{when-passed}
 use Rattle.table.specs.Table.{tableChecks, valueAt}
-use Rattle.table.proofs.Tables.{good-variables}
+use Rattle.table.proofs.Callers.{good-variables}
 use Rattle.spectrum.specs.declared.Transformed.{Transformed}
 use Rattle.spectrum.specs.declared.Transformed.the-variants.{Entries}
 use Rattle.spectrum.specs.Spectrum.{coefficient, spectrumOf, spectrumChecks, transformedSays, Transforms}
@@ -24,7 +24,7 @@ use Rattle.running.specs.declared.Ran.the-variants.{End}
 use Rattle.running.specs.declared.Counted.{Counted}
 use Rattle.running.specs.declared.Counted.the-variants.{Gates}
 use Rattle.running.specs.Run.{endFrom, phaseFrom, runChecks, Runs, cnots, phases, score, Counts}
-use Rattle.running.proofs.Answers.{ran-distinct, counted-distinct}
+use Rattle.running.proofs.Callers.{ran-distinct, counted-distinct}
 use Rattle.build.specs.declared.Built.{Built}
 use Rattle.build.specs.declared.Built.the-variants.{Length}
 use Rattle.build.specs.Construction.{construction, builtFile, buildChecks, builtSays, Builds}
@@ -34,7 +34,7 @@ use Rattle.fold.specs.declared.Folded.{Folded}
 use Rattle.fold.specs.declared.Folded.the-variants.{File}
 use Rattle.fold.specs.Fold.{folded, foldedFile, foldChecks, foldedSays, Folds}
 use Rattle.fold.proofs.Files.{same-wires, gates-of-folded}
-use Rattle.fold.proofs.Answers.{folded-distinct}
+use Rattle.fold.proofs.Callers.{folded-distinct}
 
 -- "s_k is the sum over x of +1 or -1, minus when f(x) + k.x is odd": each entry
 pub record PaperSpectrum (n : ℕ) (t : List ℕ) (out : List ℤ) (answer : Transformed) (after : List ℤ) : Type 0 where

@@ -11,7 +11,7 @@ use lib.Pow.{pow-pos, pow-add, shr-lt}
 use Rattle.numbers.specs.Bits.{bit}
 use Rattle.refusal.specs.Checks.{passed, outcome}
 use Rattle.table.specs.Table.{tableChecks, valueAt}
-use Rattle.table.proofs.Tables.{good-variables}
+use Rattle.table.proofs.Callers.{good-variables}
 use Rattle.running.specs.Run.{endFrom, phaseFrom}
 use Rattle.circuit.specs.File.{wiresOf, gatesOf, fileChecks}
 use Rattle.circuit.specs.Bytes.{Bytes}

@@ -12,13 +12,13 @@ use Rattle.spectrum.proofs.Answers.{transformed-distinct}
 use Rattle.circuit.specs.declared.Decoded.{Decoded}
 use Rattle.circuit.specs.Gates.{decoded}
 use Rattle.circuit.specs.File.{Reads}
-use Rattle.circuit.proofs.Answers.{reading-distinct}
+use Rattle.circuit.proofs.Callers.{reading-distinct}
 use Rattle.running.specs.Run.{Runs, Counts}
-use Rattle.running.proofs.Answers.{ran-distinct, counted-distinct}
+use Rattle.running.proofs.Callers.{ran-distinct, counted-distinct}
 use Rattle.build.specs.Construction.{builtSays, Builds}
 use Rattle.build.proofs.Answers.{built-distinct}
 use Rattle.fold.specs.Fold.{foldedSays, Folds}
-use Rattle.fold.proofs.Answers.{folded-distinct}
+use Rattle.fold.proofs.Callers.{folded-distinct}
 use Rattle.verdict.specs.Judging.{comparedSays, Compares, Judges}
 use Rattle.verdict.proofs.Answers.{compared-distinct}
 use Rattle.listing.specs.Listing.{listedSays, Lists}

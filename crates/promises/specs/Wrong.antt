@@ -24,7 +24,8 @@ use Rattle.running.specs.Masks.{ownMasks, masksAfter}
 use Rattle.build.specs.declared.Built.{Built}
 use Rattle.build.specs.Construction.{Builds}
 use Rattle.fold.specs.declared.Folded.{Folded}
-use Rattle.fold.specs.Fold.{maskAt, becomes, Folds}
+use Rattle.running.specs.Groups.{maskAt}
+use Rattle.fold.specs.Fold.{becomes, Folds}
 use Rattle.verdict.specs.declared.Verdict.{Verdict}
 use Rattle.verdict.specs.declared.Verdict.the-variants.{Same, Different}
 use Rattle.verdict.specs.declared.Compared.{Compared}

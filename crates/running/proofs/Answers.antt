@@ -1,19 +1,18 @@
--- Runs and counts, from what the reader says; and that no two answers say the same.
+-- Runs and counts, from what the reader says.
 use Prim.Native.Nat.{ℕ, _^_, _<_, _≤_}
-use mathlib.Core.Path.{_≡_, refl, ap, _∙_}
+use mathlib.Core.Path.{_≡_, refl, _∙_}
 use mathlib.Core.Logic.{inl, inr}
 use mathlib.Core.List.{List, [], _∷_}
 use Rattle.refusal.specs.declared.Refusal.{Refusal}
 use Rattle.refusal.specs.Names.{refusal, STATE}
 use Rattle.refusal.specs.Checks.{Check, check, atLeast, passed, refused, outcome}
 use Rattle.refusal.proofs.Outcomes.{reaches, then-refused, then-passed}
-use Rattle.refusal.proofs.Contracts.{Distinct, same-refusal}
 use Rattle.circuit.specs.File.{wiresOf, gatesOf, fileChecks}
 use Rattle.running.specs.declared.Ran.{Ran}
-use Rattle.running.specs.declared.Ran.the-variants.{End, Refused as RunRefused}
+use Rattle.running.specs.declared.Ran.the-variants.{End}
 use Rattle.running.specs.declared.Counted.{Counted}
-use Rattle.running.specs.declared.Counted.the-variants.{Gates, Refused as CountRefused}
-use Rattle.running.specs.Run.{endFrom, phaseFrom, runChecks, ranSays, Runs, cnots, phases, score, countedSays, Counts}
+use Rattle.running.specs.declared.Counted.the-variants.{Gates}
+use Rattle.running.specs.Run.{endFrom, phaseFrom, runChecks, Runs, cnots, phases, score, Counts}
 
 abbrev stateCheck : List ℕ → ℕ → List Check
 stateCheck f start = check (atLeast start (2 ^ wiresOf f)) (refusal STATE) ∷ []
@@ -34,15 +33,3 @@ ran-end f start r e p = rw (p, e)
 
 pub counted-gates : (f : List ℕ) (r : Counted) → outcome (fileChecks 0 f) ≡ passed → r ≡ Gates (cnots (gatesOf f)) (phases (gatesOf f)) (score (gatesOf f)) → Counts f r
 counted-gates f r e p = rw (p, e)
-
-pub ran-distinct : Distinct ranSays
-ran-distinct (End s p) (End t q) e = cc
-ran-distinct (End s p) (RunRefused x) e = cc
-ran-distinct (RunRefused x) (End t q) e = cc
-ran-distinct (RunRefused x) (RunRefused y) e = ap RunRefused (same-refusal x y e)
-
-pub counted-distinct : Distinct countedSays
-counted-distinct (Gates c p s) (Gates d q t) e = cc
-counted-distinct (Gates c p s) (CountRefused x) e = cc
-counted-distinct (CountRefused x) (Gates d q t) e = cc
-counted-distinct (CountRefused x) (CountRefused y) e = ap CountRefused (same-refusal x y e)

@@ -1,5 +1,5 @@
 -- The counts, gate by gate.
-use Prim.Native.Nat.{_+_, _≤_}
+use Prim.Native.Nat.{ℕ, _+_, _≤_}
 use native.Mathlib.Nat.{zero-add, add-zero}
 use native.Mathlib.Omega.{arith}
 use mathlib.Core.Bool.{Bool, true, false, not}
@@ -10,6 +10,11 @@ use lib.ListN.{length}
 use Rattle.numbers.specs.Bits.{indicator}
 use Rattle.circuit.specs.declared.Gate.{Gate}
 use Rattle.circuit.specs.declared.Gate.the-variants.{Cnot, Phase}
+use Rattle.refusal.specs.Checks.{passed, outcome}
+use Rattle.circuit.specs.Bytes.{Bytes}
+use Rattle.circuit.specs.File.{countOf, gatesOf, fileChecks}
+use Rattle.circuit.proofs.Callers.{good-file}
+use Rattle.circuit.proofs.Files.{length-gates}
 use Rattle.running.specs.Run.{cnots, phases, score}
 
 pub cnots-cons : (g : Gate) (gs : List Gate) → cnots (g ∷ gs) ≡ cnots (g ∷ []) + cnots gs
@@ -38,3 +43,7 @@ unfolding cnots phases
 gates-counted [] = refl
 gates-counted (Cnot c t ∷ gs) = let r = gates-counted gs in omega arith
 gates-counted (Phase i a ∷ gs) = let r = gates-counted gs in omega arith
+
+-- the counts together are a good file's gate count
+pub counts-all : (f : List ℕ) (c p : ℕ) → Bytes f → outcome (fileChecks 0 f) ≡ passed → c ≡ cnots (gatesOf f) → p ≡ phases (gatesOf f) → c + p ≡ countOf f
+counts-all f c p bytes e d q = omega (arith, gates-counted (gatesOf f), length-gates f bytes (good-file 0 f e))

@@ -72,7 +72,7 @@ sum-nothing (Phase i a ∷ gs) ms = let r = sum-nothing gs ms in omega arith
 pub no-group : (w : ℕ) (gs : List Gate) (m : ℕ) → 2 ^ w ≤ m → groupTotal w gs m ≡ 0
 no-group w gs m h =
     (sumMet-≈ w (λ k a. a * equal k m) (λ k a. 0) (λ k a l. ≈-of (ap (a *_) (equal-no (λ (e : k ≡ m). omega arith)) ∙ mul-zero a)) gs (ownMasks w) (own-below w)
-    ≈∙ ≈-of (sum-nothing gs (ownMasks w))) .turned
+    ≈∙ ≈-of (sum-nothing gs (ownMasks w))) .alike
 
 -- a good file's row of totals has each mask's
 pub total-at : (f : List ℕ) → wiresOf f ≤ mostWires → (m : ℕ) → getD (totalsOf f) m 0 ≡ groupTotal (wiresOf f) (gatesOf f) m

@@ -1,11 +1,11 @@
+pub mod Callers
 pub mod Counts
-pub mod Answers
 pub mod Masks
 pub mod Runs
-pub mod CountAnswers
 pub mod Groups
 pub mod Meetings
 pub mod Walks
+mod Answers
 mod Stepping
 mod Loops
-pub mod Summing
+mod Summing

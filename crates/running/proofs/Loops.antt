@@ -1,12 +1,13 @@
 -- The loops over a good file's gates: what the walk comes to at its end, as the code answers it.
-use Prim.Native.Nat.{ℕ, _+_, _-_, _%_, _≤_}
+use Prim.Native.Nat.{ℕ, _-_, _%_, _≤_}
 use native.Mathlib.Nat.{zero-add}
 use native.Mathlib.Omega.{arith}
 use mathlib.Core.Path.{_≡_, ap, ap₂, _∙_}
 use mathlib.Core.List.{List}
 use Rattle.circuit.specs.Bytes.{Bytes}
 use Rattle.circuit.specs.File.{countOf, gatesOf}
-use Rattle.circuit.proofs.Files.{GoodFile, length-gates}
+use Rattle.circuit.proofs.Callers.{GoodFile}
+use Rattle.circuit.proofs.Files.{length-gates}
 use Rattle.circuit.proofs.Walks.{Walk, walk-ends}
 use Rattle.running.specs.declared.Ran.the-variants.{End}
 use Rattle.running.specs.declared.Counted.the-variants.{Gates}

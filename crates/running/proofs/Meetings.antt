@@ -1,14 +1,14 @@
 -- Sums over the phase gates that a walk meets: term by term, and exchanged with another sum.
 use Prim.Native.Nat.{ℕ, _+_, _*_, _^_, _<_}
 use native.Mathlib.Nat.{mul-add, mul-zero}
-use mathlib.Core.Path.{_≡_, refl, sym, ap, ap₂, _∙_}
+use mathlib.Core.Path.{_≡_, refl, ap₂, _∙_}
 use mathlib.Core.List.{List, [], _∷_}
 use lib.ListN.{getD}
 use Rattle.numbers.specs.Sums.{sum}
 use Rattle.numbers.specs.Turn.{_≈_}
 use Rattle.numbers.proofs.Sums.{ℕ-adds, sumOf-ext, sumOf-plus}
 use Rattle.numbers.proofs.Subsets.{sum-zero}
-use Rattle.numbers.proofs.Turns.{≈-refl, ≈-add, ≈-of, _≈∙_}
+use Rattle.numbers.proofs.Turns.{≈-refl, ≈-add}
 use Rattle.circuit.specs.declared.Gate.{Gate}
 use Rattle.circuit.specs.declared.Gate.the-variants.{Cnot, Phase}
 use Rattle.running.specs.Masks.{Met, Mixed, Mask, masksAfter, met, metBy, sumMet}

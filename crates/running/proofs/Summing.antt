@@ -4,15 +4,14 @@ use mathlib.Core.Path.{_≡_, ap, _∙_}
 use mathlib.Core.List.{List}
 use lib.ListN.{replicate}
 use Rattle.refusal.specs.declared.Refusal.{Refusal}
-use Rattle.refusal.specs.Checks.{passed, outcome}
 use Rattle.circuit.specs.declared.Reading.{Reading}
 use Rattle.circuit.specs.declared.Reading.the-variants.{Circuit, Refused}
 use Rattle.circuit.specs.Bytes.{Bytes}
-use Rattle.circuit.specs.File.{gatesOf, fileChecks, Reads}
+use Rattle.circuit.specs.File.{gatesOf, Reads}
 use Rattle.circuit.specs.Working.{walked}
-use Rattle.circuit.proofs.Files.{read-answers, read-refuses}
+use Rattle.circuit.proofs.Callers.{read-answers, read-refuses}
 use Rattle.running.specs.Masks.{mostWires, mostMasks, ownMasks}
-use Rattle.running.specs.Groups.{totalsOf, SumsGroups}
+use Rattle.running.specs.Groups.{SumsGroups}
 use Rattle.running.specs.Working.{sumStep}
 use Rattle.running.proofs.Walks.{file-masks, file-totals}
 
@@ -30,7 +29,3 @@ module _ (side : ℕ) (f totals masks : List ℕ) (answer : Reading) (says : Rea
         sums = rw (r .passes) (file-totals f bytes (r .file) held sums z);
         holds = rw (r .passes) (file-masks f bytes (r .file) held sums z);
       }
-
--- for a file that has passed: what the row holds
-pub group-totals : (side : ℕ) (f : List ℕ) {totals masks : List ℕ} {answer : Reading} {totals′ masks′ : List ℕ} → SumsGroups side f totals masks answer totals′ masks′ → outcome (fileChecks side f) ≡ passed → totals′ ≡ totalsOf f
-group-totals side f s e = rw e at (s .sums)

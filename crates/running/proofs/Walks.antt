@@ -1,14 +1,13 @@
 -- The walks over a list of gates come to what the definitions say: a run, a count, and the sums at masks.
 use Prim.Native.Nat.{ℕ, _+_, _*_, _%_, _^_, _<_}
 use native.Mathlib.Nat.{add-zero, zero-add, add-assoc, mul-one, mul-zero}
-use native.Mathlib.Decide.{decLt, ℕ-discrete}
+use native.Mathlib.Decide.{ℕ-discrete}
 use native.Mathlib.Omega.{arith}
 use mathlib.Core.Path.{_≡_, refl, sym, ap, ap₂, _∙_}
 use mathlib.Core.List.{List, [], _∷_}
 use lib.ListN.{length, getD, set, replicate, length-set, length-replicate}
 use lib.Seq.{getD-set-same, getD-set-other, ext-getD}
 use Rattle.numbers.specs.Bits.{equal}
-use Rattle.numbers.specs.Sums.{list}
 use Rattle.numbers.proofs.Lists.{length-list, getD-list}
 use Rattle.numbers.proofs.Parity.{equal-yes, equal-no}
 use Rattle.circuit.specs.declared.Gate.{Gate}
@@ -16,7 +15,8 @@ use Rattle.circuit.specs.declared.Gate.the-variants.{Cnot, Phase}
 use Rattle.circuit.specs.Bytes.{Bytes}
 use Rattle.circuit.specs.File.{wiresOf, gatesOf}
 use Rattle.circuit.specs.Working.{walked}
-use Rattle.circuit.proofs.Files.{GoodFile, file-sound}
+use Rattle.circuit.proofs.Callers.{GoodFile}
+use Rattle.circuit.proofs.Files.{file-sound}
 use Rattle.running.specs.Run.{stepped, added, endFrom, totalFrom, cnots, score}
 use Rattle.running.specs.Masks.{Mask, mostMasks, mostWires, ownMasks, masksAfter, masksFrom, met, sumMet}
 use Rattle.running.specs.Groups.{groupTotal, totalsOf, masksOf}

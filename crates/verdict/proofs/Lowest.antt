@@ -1,4 +1,4 @@
--- The lowest number at which a property fails, and what a verdict says of every start.
+-- What `least` finds: the lowest number at which a property fails; and what a verdict says of every start.
 use Prim.Native.Nat.{ℕ, _^_, _<_, _≤_}
 use native.Mathlib.Decide.{ℕ-discrete, decLt}
 use native.Mathlib.Omega.{arith}
@@ -10,7 +10,12 @@ use Rattle.numbers.proofs.Search.{least-found}
 use Rattle.verdict.specs.declared.Verdict.the-variants.{Same, Different}
 use Rattle.numbers.specs.Turn.{difference}
 use Rattle.verdict.specs.Verdicts.{Side, part, verdictAt, verdict}
-use Rattle.verdict.specs.Working.{Lowest}
+
+-- p is the lowest below n at which A fails, or n where it holds at all of them
+pub record Lowest (A : ℕ → Type 0) (n p : ℕ) : Type 0 where
+  pub within : p ≤ n
+  pub before : (k : ℕ) → k < p → A k
+  pub there : p < n → A p → ⊥
 
 -- there is no second
 pub lowest-one : (A : ℕ → Type 0) (n p q : ℕ) → Lowest A n p → Lowest A n q → p ≡ q
@@ -26,12 +31,11 @@ pub lowest-map : (A B : ℕ → Type 0) (n p : ℕ) → ((k : ℕ) → k < n →
 lowest-map A B n p f g l =
     record { within = l .within; before = λ k h. f k (omega (arith, l .within)) (l .before k h); there = λ h b. l .there h (g p h b) }
 
-module _ (test : ℕ → Bool) where
-  -- the definition finds it
-  pub lowest-found : (A : ℕ → Type 0) → ((k : ℕ) → test k ≡ false → A k) → ((k : ℕ) → test k ≡ true → A k → ⊥) → (n : ℕ) → Lowest A n (least test n 0)
-  lowest-found A holds fails n =
-      let r = least-found test n 0 in
-      record { within = omega (arith, r .most); before = λ k h. holds k (r .before k (omega arith) h); there = λ h. fails (least test n 0) (r .there (omega arith)) }
+-- the definition finds it
+pub lowest-found : (test : ℕ → Bool) (A : ℕ → Type 0) → ((k : ℕ) → test k ≡ false → A k) → ((k : ℕ) → test k ≡ true → A k → ⊥) → (n : ℕ) → Lowest A n (least test n 0)
+lowest-found test A holds fails n =
+    let r = least-found test n 0 in
+    record { within = omega (arith, r .most); before = λ k h. holds k (r .before k (omega arith) h); there = λ h. fails (least test n 0) (r .there (omega arith)) }
 
 -- a start ends alike under both sides, with the same phase
 pub record Agree (a b : Side) (x : ℕ) : Type 0 where

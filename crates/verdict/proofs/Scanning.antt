@@ -1,10 +1,9 @@
 -- The lowest place where coefficients or single-wire ends differ is the lowest start at which the sides part.
-use Prim.Native.Nat.{ℕ, zero, suc, _+_, _-_, _*_, _^_, _<_, _≤_}
-use native.Mathlib.Nat.{one-mul, zero-mul, add-zero, add-comm}
+use Prim.Native.Nat.{ℕ, zero, suc, _+_, _-_, _*_, _^_, _<_, _≤_, min}
+use native.Mathlib.Nat.{one-mul, zero-mul, add-zero, add-comm, min-le-left, min-le-right, min-eq-left, min-eq-right}
 use native.Mathlib.Decide.{ℕ-discrete, decLt}
 use native.Mathlib.Omega.{arith}
 use mathlib.Core.Path.{_≡_, sym, ap, ap₂, subst, _∙_}
-use mathlib.Core.Logic.{_⊎_, inl, inr}
 use lib.Bits.{bitXor}
 use lib.Pow.{pow-lt, pow-mono}
 use Rattle.numbers.specs.Bits.{bit, subset}
@@ -15,8 +14,7 @@ use Rattle.numbers.proofs.Subsets.{subset-self, subset-above, sum-zero}
 use Rattle.numbers.proofs.Turns.{≈-of, ≈-sym, ≈-add, ≈-refl, ≈-cancel, ≈-small, _≈∙_}
 use Rattle.numbers.proofs.Digits.{by-bits}
 use Rattle.verdict.specs.Verdicts.{Side}
-use Rattle.verdict.specs.Working.{Lowest, Place}
-use Rattle.verdict.proofs.Lowest.{Agree}
+use Rattle.verdict.proofs.Lowest.{Lowest, Agree}
 
 -- a side whose phase is the polynomial of its coefficients, and whose ends respect exclusive or
 pub record Summed (w : ℕ) (a : Side) (c : ℕ → ℕ) : Type 0 where
@@ -88,28 +86,38 @@ module _ (w : ℕ) (a b : Side) (c d : ℕ → ℕ) (sa : Summed w a c) (sb : Su
   pub everywhere-ends : ((x : ℕ) → x < 2 ^ w → Agree a b x) → (j : ℕ) → j < w → a .end (2 ^ j) ≡ b .end (2 ^ j)
   everywhere-ends e j h = e (2 ^ j) (pow-lt h) .ends
 
-  -- the scan
-  module _ (p : ℕ) (l : Place (λ s. c s ≡ d s) (2 ^ w) (λ j. a .end (2 ^ j) ≡ b .end (2 ^ j)) w p) where
+  -- the scan: the lower of the first place of unlike coefficients and of the first unlike wire's own state
+  module _ (place wire p : ℕ) (sets : Lowest (λ s. c s ≡ d s) (2 ^ w) place) (wires : Lowest (λ j. a .end (2 ^ j) ≡ b .end (2 ^ j)) w wire) (e : p ≡ min place (2 ^ wire)) where
+    low : p ≤ place
+    low = subst (λ (m : ℕ). m ≤ place) (sym e) (min-le-left place (2 ^ wire))
+
+    high : p ≤ 2 ^ wire
+    high = subst (λ (m : ℕ). m ≤ 2 ^ wire) (sym e) (min-le-right place (2 ^ wire))
+
     agree-below : (s : ℕ) → s < p → c s ≡ d s
-    agree-below s h = l .places .before s (omega (arith, l .low))
+    agree-below s h = sets .before s (omega (arith, low))
 
     pub scan-finds : Lowest (Agree a b) (2 ^ w) p
     scan-finds =
         record {
-          within = omega (arith, l .places .within, l .low);
+          within = omega (arith, sets .within, low);
           before = λ x h.
-              let k : x < 2 ^ w = omega (arith, l .places .within, l .low) in
-              record { ends = ends-agree (l .wire) x (omega (arith, l .high)) (l .wires .before); phases = phases-agree x k (λ s m. agree-below s (omega arith)) (agree-below x h) };
-          there = λ h g. by (l .one) h g;
+              let k : x < 2 ^ w = omega (arith, sets .within, low) in
+              record { ends = ends-agree wire x (omega (arith, high)) (wires .before); phases = phases-agree x k (λ s m. agree-below s (omega arith)) (agree-below x h) };
+          there = λ h g. parts h g (decLt (2 ^ wire) place);
         }
       where
-        by : (p ≡ l .place) ⊎ (p ≡ 2 ^ l .wire) → p < 2 ^ w → Agree a b p → ⊥
-        by (inl e) h g = l .places .there (omega arith) (subst (λ (m : ℕ). c m ≡ d m) e (coefficients-agree p h agree-below (g .phases)))
-        by (inr e) h g = l .wires .there (inside (decLt (l .wire) w)) (subst (λ (m : ℕ). a .end m ≡ b .end m) e (g .ends))
+        parts : p < 2 ^ w → Agree a b p → Dec (2 ^ wire < place) → ⊥
+        parts h g (no l) =
+            let q : p ≡ place = e ∙ min-eq-left (let z : place ≤ 2 ^ wire = omega arith in z) in
+            sets .there (omega arith) (subst (λ (m : ℕ). c m ≡ d m) q (coefficients-agree p h agree-below (g .phases)))
+        parts h g (yes l) =
+            let q : p ≡ 2 ^ wire = e ∙ min-eq-right (let z : 2 ^ wire ≤ place = omega arith in z) in
+            wires .there (inside (decLt wire w)) (subst (λ (m : ℕ). a .end m ≡ b .end m) q (g .ends))
           where
-            inside : Dec (l .wire < w) → l .wire < w
+            inside : Dec (wire < w) → wire < w
             inside (yes k) = k
-            inside (no k) = absurd (omega (arith, pow-mono {i = w} {j = l .wire} (omega arith)))
+            inside (no k) = absurd (omega (arith, sets .within, pow-mono {i = w} {j = wire} (omega arith)))
 
     pub scan-phase : p < 2 ^ w → difference (a .phase p) (b .phase p) ≡ difference (c p) (d p)
     scan-phase h = phase-difference p h agree-below

@@ -8,10 +8,10 @@ use Rattle.table.specs.Table.{valueAt}
 use Rattle.circuit.specs.declared.Gate.{Gate}
 use Rattle.circuit.specs.Gates.{AllSound}
 use Rattle.running.proofs.Runs.{end-xor}
-use Rattle.verdict.specs.Coefficients.{coefficient, idealCoefficient}
+use Rattle.coefficients.specs.Coefficients.{coefficient, idealCoefficient}
 use Rattle.verdict.specs.Verdicts.{circuit, ideal}
-use Rattle.verdict.proofs.Polynomials.{phase-polynomial, coefficient-below}
-use Rattle.verdict.proofs.Ideals.{ideal-polynomial, ideal-below}
+use Rattle.coefficients.proofs.Polynomials.{phase-polynomial, coefficient-below}
+use Rattle.coefficients.proofs.Ideals.{ideal-polynomial, ideal-below}
 use Rattle.verdict.proofs.Scanning.{Summed}
 
 pub circuit-summed : (w : ℕ) (gs : List Gate) → AllSound w gs → Summed w (circuit gs) (coefficient w gs)

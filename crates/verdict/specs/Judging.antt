@@ -11,8 +11,8 @@ use Rattle.verdict.specs.declared.Verdict.{Verdict}
 use Rattle.verdict.specs.declared.Verdict.the-variants.{Same, Different}
 use Rattle.verdict.specs.declared.Compared.{Compared}
 use Rattle.verdict.specs.declared.Compared.the-variants.{Found, Refused}
-use Rattle.verdict.specs.Coefficients.{coefficient, idealCoefficient, differences}
-use Rattle.verdict.specs.Verdicts.{circuit, ideal, verdict}
+use Rattle.coefficients.specs.Coefficients.{coefficient, idealCoefficient}
+use Rattle.verdict.specs.Verdicts.{circuit, ideal, verdict, differences}
 
 -- 0 for Same; 1 for Different, with the state, both ends and the phase
 abbrev pub verdictValues : Verdict → List ℕ

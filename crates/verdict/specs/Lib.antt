@@ -1,4 +1,3 @@
-pub mod Coefficients
 pub mod Verdicts
 pub mod Judging
 pub mod Working

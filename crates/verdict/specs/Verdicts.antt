@@ -5,6 +5,7 @@ use mathlib.Core.List.{List}
 use lib.Dec.{ltb, eqb}
 use Rattle.numbers.specs.Search.{least}
 use Rattle.numbers.specs.Bits.{bit}
+use Rattle.numbers.specs.Sums.{list}
 use Rattle.circuit.specs.declared.Gate.{Gate}
 use Rattle.running.specs.Run.{endFrom, phaseFrom}
 use Rattle.verdict.specs.declared.Verdict.{Verdict}
@@ -35,3 +36,7 @@ verdictAt w a b x = cond (ltb x (2 ^ w)) (Different x (a .end x) (b .end x) (dif
 -- "Same, or Different with the lowest differing state"
 unfoldable pub verdict : ℕ → Side → Side → Verdict
 verdict w a b = verdictAt w a b (least (part a b) (2 ^ w) 0)
+
+-- "entries 0 to 2^w - 1 of the work slice .. hold first coefficient minus second"
+unfoldable pub differences : ℕ → (ℕ → ℕ) → (ℕ → ℕ) → List ℕ
+differences w c d = list (2 ^ w) (λ s. difference (c s) (d s))

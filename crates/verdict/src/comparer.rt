@@ -1,13 +1,13 @@
-// Two circuits compared, and one judged against a table.
+// Two circuits compared, and one judged against a table: both sides are summed up, and the two summaries judged.
 use crate::Compared;
-use crate::decide::decide;
-use crate::decide::decide_table;
+use crate::summaries::judge_summaries;
 use circuit::Reading;
+use running::MASKS;
+use running::WIRES;
 use table::Checked;
 ghost use mathlib.Core.Path.{_≡_};
-ghost use Rattle.refusal.specs.Checks.{outcome, passed};
-ghost use Rattle.table.specs.Table.{tableChecks};
-ghost use Rattle.circuit.specs.File.{wiresOf, fileChecks};
+ghost use lib.ListN.{length};
+ghost use Rattle.running.specs.Masks.{mostMasks};
 ghost use Rattle.verdict.specs.Judging.{Compares, Judges};
 
 // Whether two circuits do the same, or the lowest starting state at which they part, and how. The
@@ -15,33 +15,20 @@ ghost use Rattle.verdict.specs.Judging.{Compares, Judges};
 pub fn compare(first: &[u8], second: &[u8], work: &mut [u16]) -> Compared
     ensures { λ r. ⌜ Compares (now (first .entry)) (now (second .entry)) (now (work .entry)) r (now (work .exit)) ⌝ }
 {
-    match circuit::read(first, 0) {
-        Reading::Refused(refusal) => Compared::Refused(refusal),
-        Reading::Circuit { wires, gates: _ } => compare_with(first, wires, second, work),
-    }
-}
-
-fn compare_with(first: &[u8], wires: u8, second: &[u8], work: &mut [u16]) -> Compared
-    requires { ⌜ (outcome (fileChecks 0 (now first)) ≡ passed) × (wires ≡ wiresOf (now first)) ⌝ }
-    ensures { λ r. ⌜ Compares (now (first .entry)) (now (second .entry)) (now (work .entry)) r (now (work .exit)) ⌝ }
-{
-    match circuit::read(second, 1) {
+    let mut firsts = empty();
+    let mut ends = [0u16; WIRES];
+    let mut seconds = empty();
+    let mut second_ends = [0u16; WIRES];
+    let wires = match coefficients::summarise(first, 0, &mut firsts, &mut ends) {
+        Reading::Refused(refusal) => return Compared::Refused(refusal),
+        Reading::Circuit { wires, gates: _ } => wires,
+    };
+    match coefficients::summarise(second, 1, &mut seconds, &mut second_ends) {
         Reading::Refused(refusal) => Compared::Refused(refusal),
         Reading::Circuit {
             wires: width,
             gates: _,
-        } => {
-            if wires != width {
-                return Compared::Refused(refusal::by(refusal::UNLIKE));
-            }
-            let size = numbers::power(wires);
-            let room = work.len();
-            if room < size {
-                return Compared::Refused(refusal::by(refusal::ROOM));
-            }
-            let verdict = decide(first, second, wires as usize, &mut work[..size]);
-            Compared::Found(verdict)
-        }
+        } => judge_summaries(wires, &firsts, &ends, width, &seconds, &second_ends, work),
     }
 }
 
@@ -49,28 +36,35 @@ fn compare_with(first: &[u8], wires: u8, second: &[u8], work: &mut [u16]) -> Com
 pub fn judge(n: u8, table: &[u8], file: &[u8], work: &mut [u16]) -> Compared
     ensures { λ r. ⌜ Judges n (now (table .entry)) (now (file .entry)) (now (work .entry)) r (now (work .exit)) ⌝ }
 {
-    if let Checked::Refused(refusal) = table::check(n, table) {
+    let mut ideals = empty();
+    let mut ideal_ends = [0u16; WIRES];
+    let mut firsts = empty();
+    let mut ends = [0u16; WIRES];
+    if let Checked::Refused(refusal) = coefficients::summarise_ideal(
+        n,
+        table,
+        &mut ideals,
+        &mut ideal_ends,
+    ) {
         return Compared::Refused(refusal);
     }
-    match circuit::read(file, 0) {
+    match coefficients::summarise(file, 0, &mut firsts, &mut ends) {
         Reading::Refused(refusal) => Compared::Refused(refusal),
-        Reading::Circuit { wires, gates: _ } => judge_circuit(n, table, file, wires, work),
+        Reading::Circuit { wires, gates: _ } => judge_summaries(
+            wires,
+            &firsts,
+            &ends,
+            n + 1,
+            &ideals,
+            &ideal_ends,
+            work,
+        ),
     }
 }
 
-fn judge_circuit(n: u8, table: &[u8], file: &[u8], wires: u8, work: &mut [u16]) -> Compared
-    requires { ⌜ outcome (tableChecks n (now table)) ≡ passed ⌝ }
-    requires { ⌜ (outcome (fileChecks 0 (now file)) ≡ passed) × (wires ≡ wiresOf (now file)) ⌝ }
-    ensures { λ r. ⌜ Judges n (now (table .entry)) (now (file .entry)) (now (work .entry)) r (now (work .exit)) ⌝ }
+// A row to be lent.
+fn empty() -> [u16; MASKS]
+    ensures { λ r. ⌜ length r ≡ mostMasks ⌝ }
 {
-    if wires != n + 1 {
-        return Compared::Refused(refusal::by(refusal::UNLIKE));
-    }
-    let size = numbers::power(wires);
-    let room = work.len();
-    if room < size {
-        return Compared::Refused(refusal::by(refusal::ROOM));
-    }
-    let verdict = decide_table(table, file, n as usize, wires as usize, &mut work[..size]);
-    Compared::Found(verdict)
+    [0u16; MASKS]
 }

@@ -1,13 +1,14 @@
 // Document 01, "Coefficients and verdict": whether two circuits, or a circuit and a table, do the same.
 use refusal::Refusal;
 
+// both sides summed up
 mod comparer;
-mod decide;
-mod gather;
-mod ideal;
-mod settle;
-mod summary;
-mod weigh;
+
+// two summaries judged
+mod summaries;
+
+// the lowest place where they differ
+mod scan;
 
 pub use comparer::compare;
 pub use comparer::judge;

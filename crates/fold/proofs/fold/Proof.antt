@@ -2,8 +2,9 @@ use Prim.Native.Nat.{_+_}
 use native.Mathlib.Omega.{arith}
 use mathlib.Core.Path.{_≡_}
 use Rattle.circuit.specs.File.{countOf}
-use Rattle.running.proofs.CountAnswers.{Tallied, count-answers, count-refuses, counts-all}
-use Rattle.circuit.proofs.Files.{good-file}
+use Rattle.running.proofs.Callers.{Tallied, count-answers, count-refuses}
+use Rattle.running.proofs.Counts.{counts-all}
+use Rattle.circuit.proofs.Callers.{good-file}
 use Rattle.fold.proofs.Answers.{file-fails}
 use borrow.Author.Needs.{needs}
 use Rattle.fold.proofs.fold.Statement.{statement}
@@ -35,7 +36,7 @@ gates-of : (c : tie.After-cnots) → c .cnots .given .0 .0 + c .cnots .given .0 
 gates-of c =
     let s = known c in
     let v = c .cnots .given in
-    counts-all (s .before .args .file .now) (v .0 .0) (v .0 .1 .0) (v .0 .1 .1 .0) (λ j. s .shared-slice-known .given j .fits) (counts c)
+    counts-all (s .before .args .file .now) (v .0 .0) (v .0 .1 .0) (λ j. s .shared-slice-known .given j .fits) (counts c .passes) (counts c .has-cnots) (counts c .has-phases)
 
 add-fold-good : tie.Need-add-fold-good
 add-fold-good c =
@@ -46,7 +47,7 @@ fold-good-requires : tie.Need-fold-good-requires
 fold-good-requires c κs =
     let d = c .before .before in
     let r = counts d in
-    ((r .passes, gates-of d), (r .mixing, r .scored))
+    ((r .passes, gates-of d), (r .has-cnots, r .has-score))
 
 returns : tie.Need-returns
 returns c =

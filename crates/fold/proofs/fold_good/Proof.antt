@@ -1,7 +1,7 @@
 use Prim.Native.Nat.{_+_, _≤_}
 use native.Mathlib.Omega.{arith}
 use lib.ListN.{length}
-use Rattle.circuit.proofs.Files.{good-file}
+use Rattle.circuit.proofs.Callers.{good-file}
 use Rattle.fold.specs.Fold.{foldedFile}
 use Rattle.fold.proofs.Answers.{Room, room, room-fails, answered, room-behind, file-written}
 use borrow.Author.Needs.{needs}

@@ -6,7 +6,7 @@ use lib.Dec.{leb}
 use lib.ListN.{length}
 use borrow.Author.Tests.{le-leb}
 use Rattle.circuit.specs.File.{countOf, gatesOf}
-use Rattle.circuit.proofs.Files.{GoodFile, good-file}
+use Rattle.circuit.proofs.Callers.{GoodFile, good-file}
 use Rattle.listing.specs.Listing.{gateLines, listingOf, listingOfFile}
 use Rattle.listing.specs.Working.{longestLine}
 use Rattle.listing.proofs.Lengths.{head-short, wrap-short, listing-length}

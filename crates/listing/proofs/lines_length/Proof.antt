@@ -6,7 +6,7 @@ use lib.ListN.{length}
 use borrow.Author.Needs.{needs}
 use Rattle.circuit.specs.File.{gatesOf}
 use Rattle.circuit.specs.Bytes.{Bytes}
-use Rattle.circuit.proofs.Files.{GoodFile, good-file}
+use Rattle.circuit.proofs.Callers.{GoodFile, good-file}
 use Rattle.circuit.proofs.Walks.{Walk, walk-starts, walk-goes-on, walk-ends}
 use Rattle.listing.specs.Listing.{gateLines}
 use Rattle.listing.proofs.Loops.{longer, longer-walked, part-fits}

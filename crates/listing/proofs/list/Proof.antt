@@ -4,7 +4,7 @@ use mathlib.Core.Path.{sym, _∙_}
 use mathlib.Core.List.{List, _++_}
 use lib.ListN.{length}
 use Rattle.circuit.specs.File.{gatesOf}
-use Rattle.circuit.proofs.Files.{Answered, read-answers, read-refuses}
+use Rattle.circuit.proofs.Callers.{Answered, read-answers, read-refuses}
 use Rattle.listing.specs.Listing.{headLines, wrapLine, gateLines, listingOfFile}
 use Rattle.circuit.proofs.Parts.{Left, room, less-left, all-written}
 use Rattle.listing.proofs.Pieces.{listing-left}

@@ -4,7 +4,7 @@ use mathlib.Core.Path.{refl}
 use borrow.Author.Needs.{needs}
 use Rattle.circuit.specs.File.{gatesOf}
 use Rattle.circuit.specs.Bytes.{Bytes}
-use Rattle.circuit.proofs.Files.{GoodFile, good-file}
+use Rattle.circuit.proofs.Callers.{GoodFile, good-file}
 use Rattle.circuit.proofs.Parts.{wrote-same}
 use Rattle.circuit.proofs.Walks.{Writing, writing-starts, writing-room, writing-goes-on, writing-ends}
 use Rattle.listing.proofs.Loops.{stays, line, lines-written}

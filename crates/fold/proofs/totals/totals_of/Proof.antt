@@ -1,4 +1,4 @@
-use Rattle.running.proofs.Summing.{group-totals}
+use Rattle.running.proofs.Callers.{groups-answer}
 use borrow.Author.Needs.{needs}
 use Rattle.fold.proofs.totals.totals_of.Statement.{statement}
 use Rattle.fold.proofs.totals.totals_of.Tie as tie
@@ -13,7 +13,7 @@ returns : tie.Need-returns
 returns c =
     let s = start c in
     let got = c .sum-groups in
-    group-totals 0 (s .args .file .now) (got .ensures) (s .pre)
+    groups-answer 0 (s .args .file .now) (got .ensures) (s .pre) .0
 
 pub totals-of-spec : {M : Type 1} → statement M
 totals-of-spec = tie.close (tie.spec sum-groups-requires returns)

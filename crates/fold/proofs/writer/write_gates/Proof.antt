@@ -5,7 +5,7 @@ use borrow.Author.Needs.{needs}
 use lib.ListN.{length}
 use Rattle.circuit.specs.Bytes.{Bytes}
 use Rattle.circuit.specs.Gates.{bytesOf}
-use Rattle.circuit.proofs.Files.{GoodFile, good-file}
+use Rattle.circuit.proofs.Callers.{GoodFile, good-file}
 use Rattle.circuit.proofs.Parts.{wrote-same, room-same}
 use Rattle.circuit.proofs.Walks.{Writing, writing-starts, writing-room, writing-goes-on, writing-ends}
 use Rattle.running.specs.Masks.{met}

@@ -2,7 +2,7 @@ use mathlib.Core.List.{[], _∷_}
 use Rattle.refusal.specs.Checks.{outcome}
 use Rattle.circuit.specs.File.{gatesOf, fileChecks}
 use Rattle.running.specs.Run.{cnots, phases, score}
-use Rattle.circuit.proofs.Files.{read-answers, read-refuses}
+use Rattle.circuit.proofs.Callers.{read-answers, read-refuses}
 use Rattle.refusal.proofs.Contracts.{said-refused}
 use Rattle.running.proofs.Answers.{counted-gates}
 use borrow.Author.Needs.{needs}

@@ -4,7 +4,7 @@ use mathlib.Core.Path.{_≡_, refl, ap, _∙_}
 use borrow.Author.Needs.{needs}
 use lib.ListN.{length}
 use Rattle.circuit.specs.Bytes.{Bytes}
-use Rattle.circuit.proofs.Files.{GoodFile, good-file}
+use Rattle.circuit.proofs.Callers.{GoodFile, good-file}
 use Rattle.circuit.proofs.Walks.{Walk, walk-starts, walk-goes-on, walk-ends}
 use Rattle.running.specs.Masks.{met}
 use Rattle.running.specs.Working.{sumStep}

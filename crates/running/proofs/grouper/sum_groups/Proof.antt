@@ -1,4 +1,4 @@
-use Rattle.circuit.proofs.Files.{passes-anywhere, read-answers}
+use Rattle.circuit.proofs.Callers.{passes-anywhere, read-answers}
 use Rattle.running.proofs.Summing.{groups-summed, groups-refused}
 use borrow.Author.Needs.{needs}
 use Rattle.running.proofs.grouper.sum_groups.Statement.{statement}

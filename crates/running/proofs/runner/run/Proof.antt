@@ -5,7 +5,7 @@ use mathlib.Core.Path.{_≡_, sym, ap, _∙_}
 use Rattle.refusal.specs.Checks.{refused, outcome}
 use Rattle.circuit.specs.File.{wiresOf, gatesOf}
 use Rattle.running.specs.Run.{endFrom, phaseFrom, runChecks}
-use Rattle.circuit.proofs.Files.{Answered, read-answers, read-refuses}
+use Rattle.circuit.proofs.Callers.{Answered, read-answers, read-refuses}
 use Rattle.refusal.proofs.Contracts.{said-refused}
 use Rattle.running.proofs.Answers.{run-file-refused, run-state-refused, run-passes, ran-end}
 use Rattle.numbers.proofs.Powers.{small-power}

@@ -3,7 +3,7 @@ use native.Mathlib.Omega.{arith}
 use borrow.Author.Needs.{needs}
 use Rattle.circuit.specs.Bytes.{Bytes}
 use Rattle.circuit.specs.Gates.{Sound}
-use Rattle.circuit.proofs.Files.{GoodFile, good-file}
+use Rattle.circuit.proofs.Callers.{GoodFile, good-file}
 use Rattle.circuit.proofs.Walks.{Walk, walk-starts, next-sound, walk-goes-on}
 use Rattle.running.specs.Working.{runStep}
 use Rattle.running.proofs.Stepping.{run-stepped}

@@ -1,0 +1,41 @@
+// Sums by the weights of their sets.
+ghost use mathlib.Core.Path.{_≡_};
+ghost use Prim.Native.Nat.{_*_, _%_, _<_, _≤_};
+ghost use lib.ListN.{length};
+ghost use Rattle.numbers.specs.Sums.{list};
+ghost use Rattle.circuit.specs.Bytes.{putAt};
+ghost use Rattle.running.specs.Masks.{mostMasks};
+ghost use Rattle.coefficients.specs.Working.{weightAt, weighed};
+
+// By the number of wires k: nothing for none, else (-2)^(k-1), wrapped.
+const WEIGHTS: [u16; 11] = [0, 1, 65534, 4, 65528, 16, 65504, 64, 65408, 256, 65024];
+
+// Each sum by the weight of its set, at the front of `out`; where they do not fit, nothing is written.
+pub(crate) fn weigh(v: &[u16], out: &mut [u16])
+    requires { ⌜ length (now v) ≤ mostMasks ⌝ }
+    ensures { λ _. ⌜ now (out .exit) ≡ putAt (list (length (now (v .entry))) (weighed (now (v .entry)))) 0 (now (out .entry)) ⌝ }
+{
+    let size = v.len();
+    if out.len() < size {
+        return;
+    }
+    let mut s: usize = 0;
+    while s < size {
+        let sum = v[s];
+        out[s] = product(weight(s), sum);
+        s += 1;
+    }
+}
+
+fn weight(s: usize) -> u16
+    requires { ⌜ s < mostMasks ⌝ }
+    ensures { λ r. ⌜ r ≡ weightAt s ⌝ }
+{
+    WEIGHTS[usize::count_ones(s) as usize]
+}
+
+fn product(a: u16, b: u16) -> u16
+    ensures { λ r. ⌜ r ≡ a * b % 65536 ⌝ }
+{
+    ((a as u32) * (b as u32) % 65536) as u16
+}

@@ -1,0 +1,64 @@
+use Prim.Native.Nat.{ℕ, _-_, _≤_}
+use mathlib.Core.Path.{_≡_, ap, _∙_}
+use native.Mathlib.Omega.{arith}
+use Rattle.verdict.specs.Working.{entry, endOf}
+use Rattle.verdict.proofs.Judging.{end-none, end-next}
+use Rattle.verdict.proofs.scan.end_at.Statement.{statement}
+use Rattle.verdict.proofs.scan.end_at.Tie as tie
+
+abbrev Inv-loop : tie.InvT-loop
+Inv-loop ends wires state count end₀ i₀ end i = (i ≤ wires) × (end ≡ endOf i (entry ends) state)
+
+abbrev μ-loop : tie.MeasureT-loop
+μ-loop ends wires state count end₀ i₀ end i = wires - i
+
+loop-holds : tie.Need-loop-holds Inv-loop μ-loop
+loop-holds c = let a = c .before .args in (omega arith, end-none (entry (a .ends .now)) (a .state))
+
+shr-where-set : tie.Need-shr-where-set Inv-loop μ-loop
+shr-where-set c = omega arith
+
+mul-where-set : tie.Need-mul-where-set Inv-loop μ-loop
+mul-where-set c = omega arith
+
+shared-slice-read-where-set : tie.Need-shared-slice-read-where-set Inv-loop μ-loop
+shared-slice-read-where-set c = omega arith
+
+where-set-requires : tie.Need-where-set-requires Inv-loop μ-loop
+where-set-requires c κs = omega arith
+
+add-i : tie.Need-add-i Inv-loop μ-loop
+add-i c = omega arith
+
+loop-less : tie.Need-loop-less Inv-loop μ-loop
+loop-less c = omega arith
+
+loop-again : tie.Need-loop-again Inv-loop μ-loop
+loop-again c =
+    let at = c .before .before .before in
+    let l = at .loop in
+    let a = at .before .before .args in
+    let r = c .where-set in
+    (omega arith, end-next (entry (a .ends .now)) (a .state) (l .end) (l .i) (r .result) (l .inv .1) (r .ensures))
+
+returns : tie.Need-returns Inv-loop μ-loop
+returns c =
+    let l = c .before .loop in
+    let a = c .before .before .before .args in
+    l .inv .1 ∙ ap (λ (n : ℕ). endOf n (entry (a .ends .now)) (a .state)) (let e : l .i ≡ a .wires = omega arith in e)
+
+pub end-at-spec : {M : Type 1} → statement M
+end-at-spec =
+    tie.close
+    (tie.spec
+    Inv-loop
+    μ-loop
+    loop-holds
+    shr-where-set
+    mul-where-set
+    shared-slice-read-where-set
+    where-set-requires
+    add-i
+    loop-less
+    loop-again
+    returns)
