@@ -12,7 +12,7 @@ use Rattle.refusal.specs.Names.{refusal, VARS}
 use Rattle.refusal.specs.Checks.{Check, Outcome, passed, refused, outcome, roomCheck}
 use Rattle.refusal.specs.Contract.{Meets}
 use Rattle.refusal.proofs.Outcomes.{reaches, then-passed}
-use Rattle.refusal.proofs.Rooms.{earlier-refused, refused-earlier, answers-whole}
+use Rattle.refusal.proofs.Rooms.{earlier-refused, room-suffices}
 use Rattle.table.specs.Table.{tableChecks}
 use Rattle.table.proofs.Callers.{good-variables}
 use Rattle.circuit.specs.File.{fileChecks, wiresOf, gatesOf}
@@ -25,9 +25,9 @@ use Rattle.build.proofs.Callers.{build-room, build-answers, build-refuses}
 use Rattle.circuit.proofs.Files.{length-file}
 use Rattle.fold.specs.declared.Folded.{Folded}
 use Rattle.fold.specs.declared.Folded.the-variants.{File, Refused as FoldRefused}
-use Rattle.fold.specs.Fold.{foldedFile, foldedSays, folded, Folds}
-use Rattle.running.specs.Run.{score}
+use Rattle.fold.specs.Fold.{foldedFile, folded, foldChecks, Folds}
 use Rattle.fold.proofs.Files.{few-gates, folded-passes}
+use Rattle.fold.proofs.Callers.{fold-answers, fold-refuses}
 use Rattle.listing.specs.declared.Listed.{Listed}
 use Rattle.listing.specs.declared.Listed.the-variants.{Refused}
 use Rattle.listing.specs.Listing.{listedSays, Lists}
@@ -49,21 +49,14 @@ ready cs result before after l p e q =
 
 -- folding, with room for the largest file
 module _ (f lent : List ℕ) (bytes : Bytes f) (long : 8200 ≡ length lent) (a : Folded) (after : List ℕ) (m : Folds f lent a after) where
-  fold-values : List ℕ
-  fold-values = length (foldedFile f) ∷ score (gatesOf f) ∷ score (folded (wiresOf f) (gatesOf f)) ∷ []
+  only-file : outcome (foldChecks f (length lent)) ≡ outcome (fileChecks 0 f)
+  only-file = room-suffices (fileChecks 0 f) (length lent) (length (foldedFile f)) (λ e. omega (arith, few-gates 0 f bytes e, length-file (wiresOf f) (folded (wiresOf f) (gatesOf f))))
 
-  file-fits : outcome (fileChecks 0 f) ≡ passed → length (foldedFile f) ≤ length lent
-  file-fits e = omega (arith, few-gates 0 f bytes e, length-file (wiresOf f) (folded (wiresOf f) (gatesOf f)))
-
-  pub fold-refuses : (r : Refusal) → a ≡ FoldRefused r → outcome (fileChecks 0 f) ≡ refused r
-  unfolding fold-values
-  fold-refuses r e = refused-earlier foldedSays (fileChecks 0 f) (length (foldedFile f)) fold-values (foldedFile f) lent file-fits a after m r (ap foldedSays e)
+  pub file-refuses : (r : Refusal) → a ≡ FoldRefused r → outcome (fileChecks 0 f) ≡ refused r
+  file-refuses r e = sym only-file ∙ fold-refuses f lent a after m r e .0
 
   pub fold-ready : (l b s : ℕ) → a ≡ File l b s → Ready (fileChecks 0 f) (foldedFile f) after l
-  unfolding fold-values
-  fold-ready l b s e =
-      let v = answers-whole foldedSays (fileChecks 0 f) (length (foldedFile f)) fold-values (foldedFile f) lent file-fits a after m (l ∷ b ∷ s ∷ []) (ap foldedSays e) in
-      ready (fileChecks 0 f) (foldedFile f) lent after l (v .0) (cc (v .1)) (v .2)
+  fold-ready l b s e = let v = fold-answers f lent a after m l b s e in ready (fileChecks 0 f) (foldedFile f) lent after l (sym only-file ∙ v .passes) (v .long) (v .writes)
 
 -- building, with room for the largest
 module _ (n : ℕ) (t lent : List ℕ) (long : 4096 ≡ length lent) (a : Built) (after : List ℕ) (m : Builds n t lent a after) where

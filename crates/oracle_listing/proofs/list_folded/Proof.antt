@@ -2,7 +2,7 @@ use mathlib.Core.Path.{sym}
 use lib.Seq.{length-take-le}
 use Rattle.circuit.specs.File.{fileChecks}
 use Rattle.fold.specs.Fold.{foldedFile}
-use Rattle.oracle_listing.proofs.Steps.{Ready, fold-ready, fold-refuses, folded-refused, folded-listed}
+use Rattle.oracle_listing.proofs.Steps.{Ready, fold-ready, file-refuses, folded-refused, folded-listed}
 use borrow.Author.Needs.{needs}
 use Rattle.oracle_listing.proofs.list_folded.Statement.{statement}
 use Rattle.oracle_listing.proofs.list_folded.Tie as tie
@@ -62,7 +62,7 @@ returns c =
     let a = k .before .args in
     let r = f .refusal .given .0 .0 in
     folded-refused (a .file .now) (a .out .now) r
-    (fold-refuses (a .file .now) (room d .file-room .result) (λ j. k .shared-slice-known .given j .fits) (room d .file-room .ensures) (d .fold .result) (d .fold .last .1 .0) (d .fold .ensures) r (f .refusal .given .1))
+    (file-refuses (a .file .now) (room d .file-room .result) (λ j. k .shared-slice-known .given j .fits) (room d .file-room .ensures) (d .fold .result) (d .fold .last .1 .0) (d .fold .ensures) r (f .refusal .given .1))
 
 same-length : tie.Need-same-length
 same-length c = search needs
