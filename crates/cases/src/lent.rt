@@ -79,15 +79,16 @@ pub(crate) fn in_16_bits(sums: Sums) -> Work {
 }
 
 fn pattern(x: i32) -> u16 {
+    let size = numbers::magnitude(x);
     if x < 0 {
-        65535 - clamped((-1 - x) as u32)
+        std::num::wrapping_sub_u16(0, at_most(size, 32768))
     } else {
-        clamped(x as u32)
+        at_most(size, 32767)
     }
 }
 
-fn clamped(x: u32) -> u16 {
-    if x < 32768 { x as u16 } else { 32767 }
+fn at_most(x: u32, most: u16) -> u16 {
+    if x < most as u32 { x as u16 } else { most }
 }
 
 // The first `end` bytes.

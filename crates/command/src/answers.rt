@@ -70,15 +70,10 @@ pub(crate) fn signed(row: &[i32], entries: usize) {
 
 fn line(x: i32) {
     if x < 0 {
-        number(b"-", size(x) as usize);
-    } else {
-        number(b"", size(x) as usize);
+        say(b"-");
     }
+    number(b"", numbers::magnitude(x) as usize);
     say(b"\n");
-}
-
-fn size(x: i32) -> u32 {
-    if x < 0 { (-1 - x) as u32 + 1 } else { x as u32 }
 }
 
 pub(crate) fn verdict(found: Verdict) {

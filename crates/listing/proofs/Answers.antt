@@ -1,4 +1,4 @@
--- The operation's three ways out, and that no two answers say the same.
+-- The operation's three ways out.
 use Prim.Native.Nat.{ℕ, _<_, _≤_}
 use native.Mathlib.Nat.{zero-add}
 use mathlib.Core.Path.{_≡_, refl, ap, _∙_}
@@ -9,7 +9,6 @@ use Rattle.refusal.specs.declared.Refusal.{Refusal}
 use Rattle.refusal.specs.Names.{refusal, ROOM}
 use Rattle.refusal.specs.Checks.{passed, refused, outcome}
 use Rattle.refusal.specs.Contract.{values}
-use Rattle.refusal.proofs.Contracts.{Distinct, same-refusal}
 use Rattle.refusal.proofs.Rooms.{earlier-refused, room-refused, room-enough}
 use Rattle.circuit.specs.File.{fileChecks}
 use Rattle.circuit.proofs.Writing.{put-fits}
@@ -32,9 +31,3 @@ module _ (b : Bool) (f before : List ℕ) where
     answered h l after w =
         room-enough listedSays (fileChecks 0 f) (length text) (length text ∷ []) text before e h (Length l) after (ap (λ (n : ℕ). values (n ∷ [])) (w .ends ∙ zero-add (length text)))
         (w .written ∙ put-fits text 0 before (rw (zero-add (length text)) h) ∙ ap (λ (n : ℕ). text ++ drop n before) (zero-add (length text)))
-
-pub listed-distinct : Distinct listedSays
-listed-distinct (Length l) (Length m) e = cc
-listed-distinct (Length l) (Refused r) e = cc
-listed-distinct (Refused r) (Length m) e = cc
-listed-distinct (Refused r) (Refused s) e = ap Refused (same-refusal r s e)

@@ -7,7 +7,8 @@ use mathlib.Core.Path.{_≡_, refl, sym, ap, _∙_}
 use mathlib.Core.List.{List, [], _∷_, _++_}
 use lib.ListN.{length, getD, length-append, List·getD-append}
 use borrow.Author.Tests.{lt-ltb, le-ltb}
-use Rattle.listing.specs.Text.{digit, decimalFrom, decimal, valueAfter}
+use Rattle.listing.specs.Text.{digit, decimalFrom, decimal}
+use Rattle.listing.specs.Working.{valueAfter}
 
 from-small : (k n : ℕ) → n < 10 → decimalFrom k n ≡ digit n
 unfolding decimalFrom
@@ -91,29 +92,25 @@ decimal-four n h l = longer n _ (omega arith) (rw (div-div-eq-div-mul n 10 100, 
 pub decimal-five : (n : ℕ) → 10000 ≤ n → n < 100000 → decimal n ≡ (48 + n / 10000 % 10) ∷ (48 + n / 1000 % 10) ∷ (48 + n / 100 % 10) ∷ (48 + n / 10 % 10) ∷ (48 + n % 10) ∷ []
 decimal-five n h l = longer n _ (omega arith) (rw (div-div-eq-div-mul n 10 1000, div-div-eq-div-mul n 10 100, div-div-eq-div-mul n 10 10) at (decimal-four (n / 10) (omega arith) (omega arith)))
 
--- a number's last five digits, as they are written
-pub record LastFive (n a b c d e : ℕ) : Type 0 where
-  pub fifth : a ≡ 48 + n / 10000 % 10
-  pub fourth : b ≡ 48 + n / 1000 % 10
-  pub third : c ≡ 48 + n / 100 % 10
-  pub second : d ≡ 48 + n / 10 % 10
-  pub last : e ≡ 48 + n % 10
+-- a number's digits as they are written, the last first, as far as it has them
+module _ (n : ℕ) {e : ℕ} (last : e ≡ 48 + n % 10) where
+  pub one-written : n / 10 ≡ 0 → e ∷ [] ≡ decimal n
+  one-written h = cc (decimal-one n (omega arith))
 
-module _ {n a b c d e : ℕ} (l : LastFive n a b c d e) where
-  pub five-written : 10000 ≤ n → n < 65536 → a ∷ b ∷ c ∷ d ∷ e ∷ [] ≡ decimal n
-  five-written h k = cc (decimal-five n h (omega arith))
+  module _ {d : ℕ} (second : d ≡ 48 + n / 10 % 10) (some : n / 10 ≡ 0 → ⊥) where
+    pub two-written : n / 100 ≡ 0 → d ∷ e ∷ [] ≡ decimal n
+    two-written h = cc (decimal-two n (omega arith) (omega arith))
 
-  pub four-written : 1000 ≤ n → n < 10000 → b ∷ c ∷ d ∷ e ∷ [] ≡ decimal n
-  four-written h k = cc (decimal-four n h k)
+    module _ {c : ℕ} (third : c ≡ 48 + n / 100 % 10) (more : n / 100 ≡ 0 → ⊥) where
+      pub three-written : n / 1000 ≡ 0 → c ∷ d ∷ e ∷ [] ≡ decimal n
+      three-written h = cc (decimal-three n (omega arith) (omega arith))
 
-  pub three-written : 100 ≤ n → n < 1000 → c ∷ d ∷ e ∷ [] ≡ decimal n
-  three-written h k = cc (decimal-three n h k)
+      module _ {b : ℕ} (fourth : b ≡ 48 + n / 1000 % 10) (many : n / 1000 ≡ 0 → ⊥) where
+        pub four-written : n / 10000 ≡ 0 → b ∷ c ∷ d ∷ e ∷ [] ≡ decimal n
+        four-written h = cc (decimal-four n (omega arith) (omega arith))
 
-  pub two-written : 10 ≤ n → n < 100 → d ∷ e ∷ [] ≡ decimal n
-  two-written h k = cc (decimal-two n h k)
-
-  pub one-written : n < 10 → e ∷ [] ≡ decimal n
-  one-written h = cc (decimal-one n h)
+        pub five-written : {a : ℕ} → a ≡ 48 + n / 10000 % 10 → (n / 10000 ≡ 0 → ⊥) → n < 65536 → a ∷ b ∷ c ∷ d ∷ e ∷ [] ≡ decimal n
+        five-written fifth h k = cc (decimal-five n (omega arith) (omega arith))
 
 pub one-digit : (n : ℕ) → n < 10 → length (decimal n) ≡ 1
 one-digit n h = ap length (decimal-small n h)

@@ -1,7 +1,8 @@
 pub mod Decimals
 pub mod Fractions
-mod Denominators
+pub mod Lengths
 mod Writing
-pub mod Pieces
-mod GateLoops
-pub mod Answers
+mod Pieces
+mod Loops
+mod Answers
+pub mod Callers

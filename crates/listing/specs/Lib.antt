@@ -1,4 +1,5 @@
 pub mod Text
+pub mod Words
 pub mod Fractions
-pub mod Denominators
 pub mod Listing
+pub mod Working

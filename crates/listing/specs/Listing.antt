@@ -10,42 +10,28 @@ use Rattle.circuit.specs.declared.Gate.the-variants.{Cnot, Phase}
 use Rattle.circuit.specs.File.{wiresOf, gatesOf, fileChecks}
 use Rattle.listing.specs.declared.Listed.{Listed}
 use Rattle.listing.specs.declared.Listed.the-variants.{Length, Refused}
-use Rattle.listing.specs.Text.{ascii, numbered}
+use Rattle.listing.specs.Text.{numbered}
+use Rattle.listing.specs.Words.{words}
 use Rattle.listing.specs.Fractions.{Fraction, fractionOf}
 
--- "`OPENQASM 2.0;`"
-abbrev pub versionLine : List ℕ
-versionLine = ascii "OPENQASM 2.0;\n"
-
--- "`include "qelib1.inc";`"
-abbrev pub includeLine : List ℕ
-includeLine = ascii "include \"qelib1.inc\";\n"
-
--- what ends a line that names a wire; "Lines end in one newline."
-abbrev pub closing : List ℕ
-closing = ascii "];\n"
-
--- "`qreg q[W];`"
-abbrev pub registerLine : ℕ → List ℕ
-registerLine w = numbered "qreg q[" w ++ closing
-
--- the three header lines
+-- "`OPENQASM 2.0;`, `include "qelib1.inc";`, `qreg q[W];`"
 unfoldable pub headLines : ℕ → List ℕ
-headLines w = versionLine ++ (includeLine ++ registerLine w)
+headLines w = words .version ++ (words .include ++ (numbered (words .register) w ++ words .closing))
 
 -- "if wrapped `h q[W-1];`"
 unfoldable pub wrapLine : Bool → ℕ → List ℕ
 wrapLine false w = []
-wrapLine true w = numbered "h q[" (w - 1) ++ closing
+wrapLine true w = numbered (words .hadamard) (w - 1) ++ words .closing
 
 -- "CNOT: `cx q[c],q[t];`"
 unfoldable pub cnotLine : ℕ → ℕ → List ℕ
-cnotLine c t = numbered "cx q[" c ++ (numbered "],q[" t ++ closing)
+cnotLine c t = numbered (words .cnot) c ++ (numbered (words .target) t ++ words .closing)
 
 -- "Phase: `u1(K*pi/D) q[i];`"
 unfoldable pub phaseLine : ℕ → Fraction → List ℕ
-phaseLine i f = numbered "u1(" (f .above) ++ (numbered "*pi/" (f .below) ++ (numbered ") q[" i ++ closing))
+phaseLine i f = numbered (words .phase) (f .above) ++ (numbered (words .over) (f .below) ++ (numbered (words .wire) i ++ words .closing))
 
+-- the line of a gate
 abbrev pub gateLine : Gate → List ℕ
 gateLine (Cnot c t) = cnotLine c t
 gateLine (Phase i a) = phaseLine i (fractionOf a)

@@ -1,5 +1,5 @@
 -- 01, "Listing": the bytes of fixed words and of numbers.
-use Prim.Native.Nat.{ℕ, zero, suc, _+_, _-_, _*_, _/_, _%_}
+use Prim.Native.Nat.{ℕ, zero, suc, _+_, _/_, _%_}
 use Prim.Native.Char.{code}
 use Prim.Native.String.{String, [] as nothing, _∷_ as _then_}
 use mathlib.Core.Bool.{cond}
@@ -22,11 +22,6 @@ decimalFrom (suc k) n = cond (ltb n 10) (digit n) (decimalFrom k (n / 10) ++ dig
 abbrev pub decimal : ℕ → List ℕ
 decimal n = decimalFrom n n
 
--- the number that digits say, after those that say v
-unfoldable pub valueAfter : ℕ → List ℕ → ℕ
-valueAfter v [] = v
-valueAfter v (d ∷ ds) = valueAfter (v * 10 + (d - 48)) ds
-
 -- a fixed word, then a number
-abbrev pub numbered : String → ℕ → List ℕ
-numbered s n = ascii s ++ decimal n
+abbrev pub numbered : List ℕ → ℕ → List ℕ
+numbered word n = word ++ decimal n

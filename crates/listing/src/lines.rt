@@ -1,47 +1,16 @@
-// The lines of a listing.
+// The lines of a listing, and how long they are.
 use crate::text::digits;
+use crate::text::put_last;
 use crate::text::put_numbered;
 use crate::text::put_text;
+use crate::words;
 use circuit::Gate;
 ghost use mathlib.Core.Path.{_≡_};
-ghost use mathlib.Core.List.{_++_};
 ghost use Prim.Native.Nat.{_+_, _/_, _^_, _≤_};
 ghost use lib.ListN.{length};
-ghost use Rattle.circuit.specs.Gates.{Sound};
 ghost use Rattle.circuit.specs.Bytes.{Wrote};
-ghost use Rattle.listing.specs.Text.{decimal};
 ghost use Rattle.listing.specs.Fractions.{over, fractionOf};
-ghost use Rattle.listing.specs.Denominators.{denominatorText, Denominators};
-ghost use Rattle.listing.specs.Listing.{closing, headLines, wrapLine, gateLine};
-
-const VERSION: [u8; 14] = *b"OPENQASM 2.0;\n";
-
-const INCLUDE: [u8; 22] = *b"include \"qelib1.inc\";\n";
-
-const REGISTER: [u8; 7] = *b"qreg q[";
-
-// What ends a line that names a wire.
-const CLOSING: [u8; 3] = *b"];\n";
-
-// "*pi/D) q[" for D = 32,768, 16,384, .. 1: 16 rows of 13 bytes, the shorter filled up with spaces.
-pub(crate) const DENOMINATORS: [u8; 208] = *b"\
-    *pi/32768) q[\
-    *pi/16384) q[\
-    *pi/8192) q[ \
-    *pi/4096) q[ \
-    *pi/2048) q[ \
-    *pi/1024) q[ \
-    *pi/512) q[  \
-    *pi/256) q[  \
-    *pi/128) q[  \
-    *pi/64) q[   \
-    *pi/32) q[   \
-    *pi/16) q[   \
-    *pi/8) q[    \
-    *pi/4) q[    \
-    *pi/2) q[    \
-    *pi/1) q[    \
-";
+ghost use Rattle.listing.specs.Listing.{headLines, wrapLine, cnotLine, phaseLine, gateLine};
 
 // How often an angle and 32,768 can both be halved.
 fn halvings(angle: u16) -> u16
@@ -50,13 +19,15 @@ fn halvings(angle: u16) -> u16
     u16::trailing_zeros(angle | 32768) as u16
 }
 
-// A fixed word, a wire's number, and what ends the line.
-fn put_last(word: &[u8], n: u16, out: &mut [u8], at: usize) -> usize
-    requires { ⌜ at + length ((now word ++ decimal n) ++ closing) ≤ length (now out) ⌝ }
-    ensures { λ r. ⌜ Wrote ((now (word .entry) ++ decimal n) ++ closing) at (now (out .entry)) r (now (out .exit)) ⌝ }
+// The length of the three header lines.
+pub(crate) fn head_length(wires: u8) -> usize
+    ensures { λ r. ⌜ r ≡ length (headLines wires) ⌝ }
 {
-    let at = put_numbered(word, n, out, at);
-    put_text(&CLOSING, out, at)
+    words::VERSION.len()
+        + words::INCLUDE.len()
+        + words::REGISTER.len()
+        + digits(wires as u16)
+        + words::CLOSING.len()
 }
 
 // The three header lines.
@@ -64,9 +35,20 @@ pub(crate) fn put_head(wires: u8, out: &mut [u8], at: usize) -> usize
     requires { ⌜ at + length (headLines wires) ≤ length (now out) ⌝ }
     ensures { λ r. ⌜ Wrote (headLines wires) at (now (out .entry)) r (now (out .exit)) ⌝ }
 {
-    let at = put_text(&VERSION, out, at);
-    let at = put_text(&INCLUDE, out, at);
-    put_last(&REGISTER, wires as u16, out, at)
+    let at = put_text(&words::VERSION, out, at);
+    let at = put_text(&words::INCLUDE, out, at);
+    put_last(&words::REGISTER, wires as u16, out, at)
+}
+
+// The length of the h line on the last wire, if wrapped.
+pub(crate) fn wrap_length(wrapped: bool, wires: u8) -> usize
+    requires { ⌜ 1 ≤ wires ⌝ }
+    ensures { λ r. ⌜ r ≡ length (wrapLine wrapped wires) ⌝ }
+{
+    if wrapped {
+        return words::HADAMARD.len() + digits((wires - 1) as u16) + words::CLOSING.len();
+    }
+    0
 }
 
 // If wrapped, the h line on the last wire.
@@ -76,71 +58,63 @@ pub(crate) fn put_wrap(wrapped: bool, wires: u8, out: &mut [u8], at: usize) -> u
     ensures { λ r. ⌜ Wrote (wrapLine wrapped wires) at (now (out .entry)) r (now (out .exit)) ⌝ }
 {
     if wrapped {
-        return put_last(b"h q[", (wires - 1) as u16, out, at);
+        return put_last(&words::HADAMARD, (wires - 1) as u16, out, at);
     }
     at
 }
 
 // The length of a gate's line.
 pub(crate) fn line_length(gate: Gate) -> usize
-    requires { ⌜ Sound 10 gate ⌝ }
-    ensures { λ r. ⌜ (r ≡ length (gateLine gate)) × (r ≤ 25) ⌝ }
+    ensures { λ r. ⌜ r ≡ length (gateLine gate) ⌝ }
 {
     match gate {
-        Gate::Cnot {
-            control: _,
-            target: _,
-        } => 14,
-        Gate::Phase { wire: _, angle } => {
+        Gate::Cnot { control, target } => {
+            words::CNOT.len()
+                + digits(control as u16)
+                + words::TARGET.len()
+                + digits(target as u16)
+                + words::CLOSING.len()
+        }
+        Gate::Phase { wire, angle } => {
             let twos = halvings(angle);
-            7 + digits(angle >> twos) + denominator_length(twos)
+            words::PHASE.len()
+                + digits(angle >> twos)
+                + words::OVER.len()
+                + digits(32768 >> twos)
+                + words::WIRE.len()
+                + digits(wire as u16)
+                + words::CLOSING.len()
         }
     }
 }
 
-// How long "*pi/D) q[" is, D being 32,768 halved `twos` times: 77/256 is near enough to the logarithm of 2 for D's digits.
-fn denominator_length(twos: u16) -> usize
-    requires { ⌜ twos ≤ 15 ⌝ }
-    ensures { λ r. ⌜ (r ≡ length (denominatorText twos)) × (9 ≤ r) × (r ≤ 13) ⌝ }
+fn put_cnot(control: u8, target: u8, out: &mut [u8], at: usize) -> usize
+    requires { ⌜ at + length (cnotLine control target) ≤ length (now out) ⌝ }
+    ensures { λ r. ⌜ Wrote (cnotLine control target) at (now (out .entry)) r (now (out .exit)) ⌝ }
 {
-    9 + 77 * (15 - (twos as usize)) / 256
+    let at = put_numbered(&words::CNOT, control as u16, out, at);
+    put_last(&words::TARGET, target as u16, out, at)
 }
 
-// "*pi/D) q[": its first eight bytes, then its last eight over some of these, so that no branch depends on its length.
-fn put_denominator(rows: &[u8], twos: u16, out: &mut [u8], at: usize) -> usize
-    requires { ⌜ (twos ≤ 15) × Denominators (now rows) ⌝ }
-    requires { ⌜ at + length (denominatorText twos) ≤ length (now out) ⌝ }
-    ensures { λ r. ⌜ Wrote (denominatorText twos) at (now (out .entry)) r (now (out .exit)) ⌝ }
+fn put_phase(wire: u8, above: u16, below: u16, out: &mut [u8], at: usize) -> usize
+    requires { ⌜ at + length (phaseLine wire (over above below)) ≤ length (now out) ⌝ }
+    ensures { λ r. ⌜ Wrote (phaseLine wire (over above below)) at (now (out .entry)) r (now (out .exit)) ⌝ }
 {
-    let from = 13 * (twos as usize);
-    let rest = denominator_length(twos) - 8;
-    let last = from + rest;
-    put_text(&rows[from..from + 8], out, at);
-    put_text(&rows[last..last + 8], out, at + rest)
+    let at = put_numbered(&words::PHASE, above, out, at);
+    let at = put_numbered(&words::OVER, below, out, at);
+    put_last(&words::WIRE, wire as u16, out, at)
 }
 
-// A gate's line. A piece of known length is one array, so that its bytes are stored several at a time.
-pub(crate) fn put_gate(gate: Gate, rows: &[u8], out: &mut [u8], at: usize) -> usize
-    requires { ⌜ Sound 10 gate × Denominators (now rows) ⌝ }
+// A gate's line.
+pub(crate) fn put_gate(gate: Gate, out: &mut [u8], at: usize) -> usize
     requires { ⌜ at + length (gateLine gate) ≤ length (now out) ⌝ }
     ensures { λ r. ⌜ Wrote (gateLine gate) at (now (out .entry)) r (now (out .exit)) ⌝ }
 {
     match gate {
-        Gate::Cnot { control, target } => {
-            let c = 48 + control;
-            let t = 48 + target;
-            // "cx q[C],q[T];"
-            let line = [99, 120, 32, 113, 91, c, 93, 44, 113, 91, t, 93, 59, 10];
-            put_text(&line, out, at)
-        }
+        Gate::Cnot { control, target } => put_cnot(control, target, out, at),
         Gate::Phase { wire, angle } => {
             let twos = halvings(angle);
-            let at = put_numbered(b"u1(", angle >> twos, out, at);
-            let at = put_denominator(rows, twos, out, at);
-            let i = 48 + wire;
-            // "I];"
-            let end = [i, 93, 59, 10];
-            put_text(&end, out, at)
+            put_phase(wire, angle >> twos, 32768 >> twos, out, at)
         }
     }
 }

@@ -1,10 +1,12 @@
 // Fixed words and numbers, written as text. Each writer answers the place behind what it wrote.
+use crate::words::CLOSING;
 ghost use mathlib.Core.Path.{_≡_};
 ghost use mathlib.Core.List.{_++_};
 ghost use Prim.Native.Nat.{_+_, _/_, _%_, _≤_};
 ghost use lib.ListN.{length};
 ghost use Rattle.circuit.specs.Bytes.{Wrote};
 ghost use Rattle.listing.specs.Text.{decimal};
+ghost use Rattle.listing.specs.Words.{words};
 
 pub(crate) fn put_text(text: &[u8], out: &mut [u8], at: usize) -> usize
     requires { ⌜ at + length (now text) ≤ length (now out) ⌝ }
@@ -51,27 +53,27 @@ fn put_decimal(n: u16, out: &mut [u8], at: usize) -> usize
     ensures { λ r. ⌜ Wrote (decimal n) at (now (out .entry)) r (now (out .exit)) ⌝ }
 {
     let tens = n / 10;
-    let hundreds = n / 100;
-    let thousands = n / 1000;
-    let myriads = n / 10000;
-    let a = digit(myriads, 0);
-    let b = digit(thousands, myriads);
-    let c = digit(hundreds, thousands);
-    let d = digit(tens, hundreds);
     let e = digit(n, tens);
-    if 10000 <= n {
-        return put_text(&[a, b, c, d, e], out, at);
+    if tens == 0 {
+        return put_text(&[e], out, at);
     }
-    if 1000 <= n {
-        return put_text(&[b, c, d, e], out, at);
-    }
-    if 100 <= n {
-        return put_text(&[c, d, e], out, at);
-    }
-    if 10 <= n {
+    let hundreds = n / 100;
+    let d = digit(tens, hundreds);
+    if hundreds == 0 {
         return put_text(&[d, e], out, at);
     }
-    put_text(&[e], out, at)
+    let thousands = n / 1000;
+    let c = digit(hundreds, thousands);
+    if thousands == 0 {
+        return put_text(&[c, d, e], out, at);
+    }
+    let myriads = n / 10000;
+    let b = digit(thousands, myriads);
+    if myriads == 0 {
+        return put_text(&[b, c, d, e], out, at);
+    }
+    let a = digit(myriads, 0);
+    put_text(&[a, b, c, d, e], out, at)
 }
 
 // A fixed word, then a number.
@@ -79,6 +81,15 @@ pub(crate) fn put_numbered(word: &[u8], n: u16, out: &mut [u8], at: usize) -> us
     requires { ⌜ at + length (now word ++ decimal n) ≤ length (now out) ⌝ }
     ensures { λ r. ⌜ Wrote (now (word .entry) ++ decimal n) at (now (out .entry)) r (now (out .exit)) ⌝ }
 {
-    let behind = put_text(word, out, at);
-    put_decimal(n, out, behind)
+    let at = put_text(word, out, at);
+    put_decimal(n, out, at)
+}
+
+// The same, and what ends the line.
+pub(crate) fn put_last(word: &[u8], n: u16, out: &mut [u8], at: usize) -> usize
+    requires { ⌜ at + length ((now word ++ decimal n) ++ words .closing) ≤ length (now out) ⌝ }
+    ensures { λ r. ⌜ Wrote ((now (word .entry) ++ decimal n) ++ words .closing) at (now (out .entry)) r (now (out .exit)) ⌝ }
+{
+    let at = put_numbered(word, n, out, at);
+    put_text(&CLOSING, out, at)
 }

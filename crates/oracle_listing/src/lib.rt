@@ -3,13 +3,8 @@ use build::Built;
 use fold::Folded;
 use listing::Listed;
 ghost use mathlib.Core.Path.{_≡_};
-ghost use mathlib.Core.List.{[], _∷_, _++_};
 ghost use lib.ListN.{length};
-ghost use Rattle.refusal.specs.Checks.{outcome, roomCheck};
-ghost use Rattle.refusal.specs.Contract.{Meets};
-ghost use Rattle.circuit.specs.File.{fileChecks};
-ghost use Rattle.listing.specs.Listing.{listedSays};
-ghost use Rattle.oracle_listing.specs.Oracle.{variablesOf, tableOf, foldedListing, ListsOracle};
+ghost use Rattle.oracle_listing.specs.Oracle.{variablesOf, tableOf, ListsFolded, ListsOracle};
 
 // Room for the largest built file, of 8 variables.
 fn built_room() -> [u8; 4096]
@@ -27,7 +22,7 @@ fn file_room() -> [u8; 8200]
 
 // The wrapped listing of a file's folding, or a refusal.
 fn list_folded(file: &[u8], out: &mut [u8]) -> Listed
-    ensures { λ r. ⌜ Meets listedSays (outcome (fileChecks 0 (now (file .entry)) ++ roomCheck (length (now (out .entry))) (length (foldedListing (now (file .entry)))))) (length (foldedListing (now (file .entry))) ∷ []) (foldedListing (now (file .entry))) (now (out .entry)) r (now (out .exit)) ⌝ }
+    ensures { λ r. ⌜ ListsFolded (now (file .entry)) (now (out .entry)) r (now (out .exit)) ⌝ }
 {
     let mut folded = file_room();
     match fold::fold(file, &mut folded) {

@@ -22,7 +22,7 @@ use Rattle.fold.proofs.Callers.{folded-distinct}
 use Rattle.verdict.specs.Judging.{comparedSays, Compares, Judges}
 use Rattle.verdict.proofs.Answers.{compared-distinct}
 use Rattle.listing.specs.Listing.{listedSays, Lists}
-use Rattle.listing.proofs.Answers.{listed-distinct}
+use Rattle.listing.proofs.Callers.{listed-distinct}
 use Rattle.oracle_listing.specs.Oracle.{ListsOracle}
 use Rattle.promises.specs.Demands.{NoSecond, NoSecondAnswer}
 

@@ -35,7 +35,7 @@ use Rattle.verdict.specs.Judging.{compareChecks, judgeChecks, comparedSays, Com
 use Rattle.listing.specs.Listing.{headLines, wrapLine, gateLines, listingOf, listChecks, listedSays}
 use Rattle.listing.specs.Text.{decimalFrom}
 use Rattle.oracle_listing.specs.Oracle.{oracleChecks}
-use Rattle.oracle_listing.proofs.Steps.{room-for-text}
+use Rattle.oracle_listing.proofs.Callers.{room-for-text}
 use Rattle.promises.specs.Demands.{Refuses}
 use Rattle.promises.specs.Cases.{builtHere, empty, cases}
 use Rattle.promises.specs.Wrong.{Unacceptable, checking, transforming, reading, running, counting, building, folding, comparing, judging, listing, listingOracle, RefusesEverything, AlwaysFinds, LeavesBuffer, Copies, firstMask, firstGroup, FoldsFirstGroup, AlwaysScores}

@@ -1,40 +1,56 @@
-use Prim.Native.Nat.{_+_, _-_, _≤_}
+use Prim.Native.Nat.{_+_, _-_}
 use native.Mathlib.Nat.{zero-add}
 use native.Mathlib.Omega.{arith}
-use mathlib.Core.Path.{_≡_, ap}
-use lib.ListN.{length, drop}
+use mathlib.Core.Path.{ap, _∙_}
+use lib.ListN.{length}
+use borrow.Author.Needs.{needs}
 use Rattle.circuit.specs.File.{gatesOf}
-use Rattle.circuit.proofs.Callers.{good-file}
-use Rattle.listing.specs.Listing.{gateLine, gateLines}
-use Rattle.listing.proofs.Pieces.{next-long}
-use Rattle.listing.proofs.GateLoops.{none-after, lines-fit}
+use Rattle.circuit.specs.Bytes.{Bytes}
+use Rattle.circuit.proofs.Callers.{GoodFile, good-file}
+use Rattle.circuit.proofs.Walks.{Walk, walk-starts, walk-goes-on, walk-ends}
+use Rattle.listing.specs.Listing.{gateLines}
+use Rattle.listing.proofs.Loops.{longer, longer-walked, part-fits}
 use Rattle.listing.proofs.lines_length.Statement.{statement}
 use Rattle.listing.proofs.lines_length.Tie as tie
 
--- the length so far, and of the rest
 abbrev Inv-loop : tie.InvT-loop
-Inv-loop file gates total₀ i₀ total i = (i ≤ gates) × (total + length (gateLines (drop i (gatesOf file))) ≡ length (gateLines (gatesOf file)))
+Inv-loop file gates total₀ i₀ total i = Walk longer file 0 total i
 
 abbrev μ-loop : tie.MeasureT-loop
 μ-loop file gates total₀ i₀ total i = gates - i
 
-next : (c : tie.After-good-gate Inv-loop μ-loop) → let at = c .before .before in let gs = gatesOf (at .before .before .args .file .now) in
-    length (gateLines (drop (at .loop .i) gs)) ≡ length (gateLine (c .good-gate .result)) + length (gateLines (drop (at .loop .i + 1) gs))
-next c = let at = c .before .before in next-long (gatesOf (at .before .before .args .file .now)) (at .loop .i) (c .good-gate .result) (c .good-gate .ensures .0)
+abbrev start : tie.At-loop Inv-loop μ-loop → tie.Start Inv-loop μ-loop
+start at = at .before .before
+
+abbrev loop : tie.After-line-length Inv-loop μ-loop → tie.At-loop Inv-loop μ-loop
+loop c = c .before .before .before
+
+bytes : (at : tie.At-loop Inv-loop μ-loop) → Bytes (start at .args .file .now)
+bytes at j = at .before .shared-slice-known .given j .fits
+
+good : (at : tie.At-loop Inv-loop μ-loop) → GoodFile (start at .args .file .now)
+good at = good-file 0 (start at .args .file .now) (start at .pre .0)
+
+again : (c : tie.After-line-length Inv-loop μ-loop) → let at = loop c in Walk longer (start at .args .file .now) 0 (at .loop .total + c .line-length .result) (at .loop .i + 1)
+again c =
+    let at = loop c in
+    let l = at .loop in
+    let g = c .before in
+    walk-goes-on (start at .args .file .now) (bytes at) (good at) (l .i) (g .good-gate .result) (omega arith) (g .good-gate .ensures) longer 0 (l .total) (l .total + c .line-length .result) (ap (l .total +_) (c .line-length .ensures)) (l .inv)
 
 loop-holds : tie.Need-loop-holds Inv-loop μ-loop
-loop-holds c = (omega arith, zero-add (length (gateLines (gatesOf (c .before .args .file .now)))))
+loop-holds c = walk-starts longer (c .before .args .file .now) 0
 
 good-gate-requires : tie.Need-good-gate-requires Inv-loop μ-loop
-good-gate-requires c κs = (c .before .before .before .pre .0, omega arith)
+good-gate-requires c κs = search needs
 
 line-length-requires : tie.Need-line-length-requires Inv-loop μ-loop
-line-length-requires c κs = c .good-gate .ensures .1
+line-length-requires c κs = search needs
 
 add-total : tie.Need-add-total Inv-loop μ-loop
-add-total c = let known = c .before .before .before .before in
-    let s = known .before in
-    omega (arith, next (c .before), lines-fit (s .args .file .now) (λ j. known .shared-slice-known .given j .fits) (s .pre .0), good-file 0 (s .args .file .now) (s .pre .0) .count)
+add-total c =
+    let at = loop c in
+    omega (arith, part-fits (start at .args .file .now) (bytes at) (good at) (at .loop .total + c .line-length .result) (at .loop .i + 1) (again c), good at .count)
 
 add-i : tie.Need-add-i Inv-loop μ-loop
 add-i c = omega arith
@@ -43,13 +59,13 @@ loop-less : tie.Need-loop-less Inv-loop μ-loop
 loop-less c = omega arith
 
 loop-again : tie.Need-loop-again Inv-loop μ-loop
-loop-again c = (omega arith, omega (arith, next (c .before)))
+loop-again c = again c
 
 returns : tie.Need-returns Inv-loop μ-loop
-returns c = let at = c .before in
-    let known = at .before in
-    let s = known .before in
-    omega (arith, ap length (none-after (s .args .file .now) (λ j. known .shared-slice-known .given j .fits) (s .pre .0) (at .loop .i) (omega arith)))
+returns c =
+    let at = c .before in
+    let f = start at .args .file .now in
+    walk-ends f (bytes at) (good at) (at .loop .i) (omega arith) longer 0 (at .loop .total) (at .loop .inv) ∙ longer-walked (gatesOf f) 0 ∙ zero-add (length (gateLines (gatesOf f)))
 
 pub lines-length-spec : {M : Type 1} → statement M
 lines-length-spec =

@@ -24,50 +24,53 @@ good c =
     read-answers 0 (start c .args .file .now) (got .read .result) (got .read .ensures) (v .0 .0) (v .0 .1 .0) (v .1)
 
 -- what is left of the text
-abbrev w0 : tie.Else1 → tie.After-wires
-w0 c = c .before .before .before
+abbrev found : tie.Else1 → tie.After-wires
+found c = c .before .before .before
 
-abbrev s0 : tie.Else1 → tie.Start
-s0 c = start (w0 c)
+abbrev begin : tie.Else1 → tie.Start
+begin c = start (found c)
 
 abbrev wires : tie.Else1 → ℕ
-wires c = w0 c .wires .given .0 .0
+wires c = found c .wires .given .0 .0
 
 abbrev text : tie.Else1 → List ℕ
-text c = listingOfFile (s0 c .args .wrapped) (s0 c .args .file .now)
+text c = listingOfFile (begin c .args .wrapped) (begin c .args .file .now)
 
 abbrev lines : tie.Else1 → List ℕ
-lines c = gateLines (gatesOf (s0 c .args .file .now))
+lines c = gateLines (gatesOf (begin c .args .file .now))
 
 abbrev wrap : tie.Else1 → List ℕ
-wrap c = wrapLine (s0 c .args .wrapped) (wires c)
+wrap c = wrapLine (begin c .args .wrapped) (wires c)
 
-fitting : (c : tie.Else1) → length (text c) ≤ length (s0 c .args .out .now)
-fitting c = let f = c .before in leb-true (length (text c)) (length (s0 c .args .out .now)) (sym (f .fits2 .ensures) ∙ not-false (f .fits2 .result) (c .if1 .left))
+fitting : (c : tie.Else1) → length (text c) ≤ length (begin c .args .out .now)
+fitting c = let f = c .before in leb-true (length (text c)) (length (begin c .args .out .now)) (sym (f .fits2 .ensures) ∙ not-false (f .fits2 .result) (c .if1 .left))
 
-left0 : (c : tie.Else1) → let out = s0 c .args .out .now in Left (text c) 0 out (headLines (wires c) ++ (wrap c ++ (lines c ++ wrap c))) 0 out
-left0 c = let a = s0 c .args in listing-left (a .wrapped) (a .file .now) (wires c) (a .out .now) (good (w0 c) .wires) (fitting c)
+text-left : (c : tie.Else1) → let out = begin c .args .out .now in Left (text c) 0 out (headLines (wires c) ++ (wrap c ++ (lines c ++ wrap c))) 0 out
+text-left c = let a = begin c .args in listing-left (a .wrapped) (a .file .now) (wires c) (a .out .now) (good (found c) .wires) (fitting c)
 
 some-wires : (c : tie.Else1) → 1 ≤ wires c
-some-wires c = let g = good (w0 c) in omega (arith, g .wires, g .file .some)
+some-wires c = let g = good (found c) in omega (arith, g .wires, g .file .some)
 
-abbrev s1 : tie.After-put-head → tie.Else1
-s1 c = c .before .before
+abbrev checked : tie.After-put-head → tie.Else1
+checked c = c .before .before
 
-left1 : (c : tie.After-put-head) → let s = s1 c in Left (text s) 0 (s0 s .args .out .now) (wrap s ++ (lines s ++ wrap s)) (c .put-head .result) (c .put-head .last .1 .0)
-left1 c = let s = s1 c in less-left (headLines (wires s)) (wrap s ++ (lines s ++ wrap s)) (left0 s) (c .put-head .ensures)
+behind-head : (c : tie.After-put-head) → let s = checked c in Left (text s) 0 (begin s .args .out .now) (wrap s ++ (lines s ++ wrap s)) (c .put-head .result) (c .put-head .last .1 .0)
+behind-head c = let s = checked c in less-left (headLines (wires s)) (wrap s ++ (lines s ++ wrap s)) (text-left s) (c .put-head .ensures)
 
-abbrev s2 : tie.After-put-wrap → tie.After-put-head
-s2 c = c .before .before .before .before
+abbrev headed : tie.After-put-wrap → tie.After-put-head
+headed c = c .before .before .before .before
 
-left2 : (c : tie.After-put-wrap) → let s = s1 (s2 c) in Left (text s) 0 (s0 s .args .out .now) (lines s ++ wrap s) (c .put-wrap .result) (c .put-wrap .last .1 .1 .0)
-left2 c = let s = s1 (s2 c) in less-left (wrap s) (lines s ++ wrap s) (left1 (s2 c)) (c .put-wrap .ensures)
+behind-wrap : (c : tie.After-put-wrap) → let s = checked (headed c) in Left (text s) 0 (begin s .args .out .now) (lines s ++ wrap s) (c .put-wrap .result) (c .put-wrap .last .1 .1 .0)
+behind-wrap c = let s = checked (headed c) in less-left (wrap s) (lines s ++ wrap s) (behind-head (headed c)) (c .put-wrap .ensures)
 
-abbrev s3 : tie.After-put-gates → tie.After-put-wrap
-s3 c = c .before .before .before .before
+abbrev wrapped : tie.After-put-gates → tie.After-put-wrap
+wrapped c = c .before .before .before .before
 
-left3 : (c : tie.After-put-gates) → let s = s1 (s2 (s3 c)) in Left (text s) 0 (s0 s .args .out .now) (wrap s) (c .put-gates .result) (c .put-gates .last .1 .1 .0)
-left3 c = let s = s1 (s2 (s3 c)) in less-left (lines s) (wrap s) (left2 (s3 c)) (c .put-gates .ensures)
+behind-gates : (c : tie.After-put-gates) → let s = checked (headed (wrapped c)) in Left (text s) 0 (begin s .args .out .now) (wrap s) (c .put-gates .result) (c .put-gates .last .1 .1 .0)
+behind-gates c = let s = checked (headed (wrapped c)) in less-left (lines s) (wrap s) (behind-wrap (wrapped c)) (c .put-gates .ensures)
+
+abbrev listed : tie.After-put-wrap2 → tie.After-put-gates
+listed c = c .before .before .before .before
 
 read-requires : tie.Need-read-requires
 read-requires c κs = search needs
@@ -91,35 +94,35 @@ returns c = let f = c .before .before in
     room-fails (a .wrapped) (a .file .now) (a .out .now) (good w .passes) (leb-false (length (listingOfFile (a .wrapped) (a .file .now))) (length (a .out .now)) (sym (f .fits2 .ensures) ∙ not-true (f .fits2 .result) (c .before .if1 .taken))) (c .by .result) (c .by .ensures)
 
 put-head-requires : tie.Need-put-head-requires
-put-head-requires c κs = let s = c .before in room (headLines (wires s)) (wrap s ++ (lines s ++ wrap s)) (left0 s)
+put-head-requires c κs = let s = c .before in room (headLines (wires s)) (wrap s ++ (lines s ++ wrap s)) (text-left s)
 
 put-wrap-requires : tie.Need-put-wrap-requires
-put-wrap-requires c κs = let p = c .before .before .before in let s = s1 p in (some-wires s, room (wrap s) (lines s ++ wrap s) (left1 p))
+put-wrap-requires c κs = let p = c .before .before .before in let s = checked p in (some-wires s, room (wrap s) (lines s ++ wrap s) (behind-head p))
 
 put-gates-requires : tie.Need-put-gates-requires
 put-gates-requires c κs = let p = c .before .before .before in
-    let s = s1 (s2 p) in
-    let g = good (w0 s) in
-    ((g .passes, g .count), room (lines s) (wrap s) (left2 p))
+    let s = checked (headed p) in
+    let g = good (found s) in
+    ((g .passes, g .count), room (lines s) (wrap s) (behind-wrap p))
 
 put-wrap-requires-2 : tie.Need-put-wrap-requires-2
-put-wrap-requires-2 c κs = let p = c .before .before .before in (some-wires (s1 (s2 (s3 p))), left3 p .fits)
+put-wrap-requires-2 c κs = let p = c .before .before .before in (some-wires (checked (headed (wrapped p))), behind-gates p .fits)
 
 returns-2 : tie.Need-returns-2
-returns-2 c = let found = c .before in
-    let got = found .before .before in
+returns-2 c = let f = c .before in
+    let got = f .before .before in
     let a = got .before .before .before .args in
-    file-fails (a .wrapped) (a .file .now) (a .out .now) (found .refusal .given .0 .0) (read-refuses 0 (a .file .now) (got .read .result) (got .read .ensures) (found .refusal .given .0 .0) (found .refusal .given .1))
+    file-fails (a .wrapped) (a .file .now) (a .out .now) (f .refusal .given .0 .0) (read-refuses 0 (a .file .now) (got .read .result) (got .read .ensures) (f .refusal .given .0 .0) (f .refusal .given .1))
 
 same-length : tie.Need-same-length
 same-length c = search needs
 
 returns-3 : tie.Need-returns-3
 returns-3 c = let p = c .before .before in
-    let g = p .before .before .before .before in
-    let s = s1 (s2 (s3 g)) in
-    let a = s0 s .args in
-    answered (a .wrapped) (a .file .now) (a .out .now) (good (w0 s) .passes) (fitting s) (p .put-wrap2 .result) (p .put-wrap2 .last .1 .1 .0) (all-written (left3 g) (p .put-wrap2 .ensures))
+    let g = listed p in
+    let s = checked (headed (wrapped g)) in
+    let a = begin s .args in
+    answered (a .wrapped) (a .file .now) (a .out .now) (good (found s) .passes) (fitting s) (p .put-wrap2 .result) (p .put-wrap2 .last .1 .1 .0) (all-written (behind-gates g) (p .put-wrap2 .ensures))
 
 pub list-spec : {M : Type 1} → statement M
 list-spec =

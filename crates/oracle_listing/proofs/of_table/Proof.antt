@@ -2,18 +2,30 @@ use mathlib.Core.Path.{sym}
 use lib.Seq.{length-take-le}
 use Rattle.table.specs.Table.{tableChecks}
 use Rattle.build.specs.Construction.{builtFile}
-use Rattle.oracle_listing.proofs.Steps.{Ready, build-ready, build-refuses, table-refused, table-listed}
+use Rattle.oracle_listing.proofs.Steps.{Ready, build-ready, table-refuses, table-refused, table-listed}
 use borrow.Author.Needs.{needs}
 use Rattle.oracle_listing.proofs.of_table.Statement.{statement}
 use Rattle.oracle_listing.proofs.of_table.Tie as tie
 
--- what building answered
-built : (c : tie.After-length) → Ready (tableChecks (c .before .before .before .before .before .before .before .before .args .n) (c .before .before .before .before .before .before .before .before .args .table .now)) (builtFile (c .before .before .before .before .before .before .before .before .args .n) (c .before .before .before .before .before .before .before .before .args .table .now)) (c .before .before .before .build .last .1 .1 .0) (c .length .given .0 .0)
+abbrev room : tie.After-build → tie.After-built-room
+room did = did .before .before
+
+abbrev start : tie.After-build → tie.Start
+start did = room did .before .before .before
+
+-- where the length is found, and where the folded file was listed
+abbrev did : tie.After-length → tie.After-build
+did c = c .before .before .before
+
+abbrev found : tie.After-list-folded → tie.After-length
+found c = c .before .before .before .before
+
+built : (c : tie.After-length) → let a = start (did c) .args in Ready (tableChecks (a .n) (a .table .now)) (builtFile (a .n) (a .table .now)) (did c .build .last .1 .1 .0) (c .length .given .0 .0)
 built c =
-    let did = c .before .before .before in
-    let room = did .before .before in
-    let a = room .before .before .before .args in
-    build-ready (a .n) (a .table .now) (room .built-room .result) (room .built-room .ensures) (did .build .result) (did .build .last .1 .1 .0) (did .build .ensures) (c .length .given .0 .0) (c .length .given .1)
+    let d = did c in
+    let r = room d in
+    let a = start d .args in
+    build-ready (a .n) (a .table .now) (r .built-room .result) (r .built-room .ensures) (d .build .result) (d .build .last .1 .1 .0) (d .build .ensures) (c .length .given .0 .0) (c .length .given .1)
 
 built-room-requires : tie.Need-built-room-requires
 built-room-requires c κs = search needs
@@ -35,21 +47,20 @@ array-share-prefix-built c = built (c .before) .fits
 
 slice-aggregate-list-folded : tie.Need-slice-aggregate-list-folded
 slice-aggregate-list-folded c =
-    let found = c .before .before in
-    sym (length-take-le (found .length .given .0 .0) (found .before .before .before .build .last .1 .1 .0) (built found .fits))
+    let f = c .before .before in
+    sym (length-take-le (f .length .given .0 .0) (did f .build .last .1 .1 .0) (built f .fits))
 
 list-folded-requires : tie.Need-list-folded-requires
 list-folded-requires c κs = search needs
 
 returns : tie.Need-returns
 returns c =
-    let found = c .before in
-    let did = found .before .before .before in
-    let room = did .before .before in
-    let a = room .before .before .before .args in
-    let r = found .refusal .given .0 .0 in
+    let f = c .before in
+    let d = f .before .before .before in
+    let a = start d .args in
+    let r = f .refusal .given .0 .0 in
     table-refused (a .n) (a .table .now) (a .out .now) r
-    (build-refuses (a .n) (a .table .now) (room .built-room .result) (room .built-room .ensures) (did .build .result) (did .build .last .1 .1 .0) (did .build .ensures) r (found .refusal .given .1))
+    (table-refuses (a .n) (a .table .now) (room d .built-room .result) (room d .built-room .ensures) (d .build .result) (d .build .last .1 .1 .0) (d .build .ensures) r (f .refusal .given .1))
 
 same-length : tie.Need-same-length
 same-length c = search needs
@@ -57,10 +68,10 @@ same-length c = search needs
 returns-2 : tie.Need-returns-2
 returns-2 c =
     let last = c .before .before in
-    let found = last .before .before .before .before in
-    let did = found .before .before .before in
-    let a = did .before .before .before .before .before .args in
-    table-listed (a .n) (a .table .now) (did .build .last .1 .1 .0) (a .out .now) (found .length .given .0 .0) (built found) (last .list-folded .result) (last .list-folded .last .1 .0) (last .list-folded .ensures)
+    let f = found last in
+    let d = did f in
+    let a = start d .args in
+    table-listed (a .n) (a .table .now) (d .build .last .1 .1 .0) (a .out .now) (f .length .given .0 .0) (built f) (last .list-folded .result) (last .list-folded .last .1 .0) (last .list-folded .ensures)
 
 pub of-table-spec : {M : Type 1} → statement M
 of-table-spec =

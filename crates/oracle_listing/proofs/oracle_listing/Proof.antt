@@ -8,6 +8,9 @@ use borrow.Author.Needs.{needs}
 use Rattle.oracle_listing.proofs.oracle_listing.Statement.{statement}
 use Rattle.oracle_listing.proofs.oracle_listing.Tie as tie
 
+abbrev start : tie.After-of-table → tie.Start
+start c = c .before .before .before .before .before .before .before
+
 by-requires : tie.Need-by-requires
 by-requires c κs = search needs
 
@@ -38,7 +41,7 @@ same-length c = search needs
 returns-2 : tie.Need-returns-2
 returns-2 c =
     let last = c .before .before in
-    let a = last .before .before .before .before .before .before .before .args in
+    let a = start last .args in
     subst (λ (t : List ℕ). ListsOracle (variablesOf (a .input .now)) t (a .out .now) (last .of-table .result) (last .of-table .last .1 .1 .0)) (rest-of (a .input .now)) (last .of-table .ensures)
 
 pub oracle-listing-spec : {M : Type 1} → statement M

@@ -5,6 +5,9 @@ use borrow.Author.Needs.{needs}
 use Rattle.phg.proofs.call.Statement.{statement}
 use Rattle.phg.proofs.call.Tie as tie
 
+abbrev start : tie.After-call-arg2 → tie.Start
+start c = c .before .before .before .before
+
 slice-aggregate-call : tie.Need-slice-aggregate-call
 slice-aggregate-call c = search needs
 
@@ -15,7 +18,7 @@ sub-last : tie.Need-sub-last
 sub-last c = search needs
 
 slice-aggregate-call-2 : tie.Need-slice-aggregate-call-2
-slice-aggregate-call-2 c = sym (length-take-le _ (c .before .before .before .before .args .line .now) (omega arith))
+slice-aggregate-call-2 c = sym (length-take-le _ (start c .args .line .now) (omega arith))
 
 call-requires-2 : tie.Need-call-requires-2
 call-requires-2 c κs = search needs

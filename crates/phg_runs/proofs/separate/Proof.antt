@@ -14,6 +14,9 @@ Inv-loop text line₀ i₀ line i = (length line ≡ length line₀) × (i ≤ l
 abbrev μ-loop : tie.MeasureT-loop
 μ-loop text line₀ i₀ line i = length text - i
 
+abbrev loop : tie.Then2 Inv-loop μ-loop → tie.At-loop Inv-loop μ-loop
+loop c = c .before .before .before .before
+
 loop-holds : tie.Need-loop-holds Inv-loop μ-loop
 loop-holds c = search needs
 
@@ -25,7 +28,7 @@ same-length c = search needs
 
 returns : tie.Need-returns Inv-loop μ-loop
 returns c =
-    let l = c .before .before .before .before .loop in
+    let l = loop c .loop in
     (omega arith, sym (length-take-le (l .i) (l .line) (omega arith)))
 
 word-byte-requires : tie.Need-word-byte-requires Inv-loop μ-loop

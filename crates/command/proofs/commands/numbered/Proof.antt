@@ -25,6 +25,12 @@ Inv-loop name names command₀ command = (command ≤ 10) × ((k : ℕ) → k < 
 abbrev μ-loop : tie.MeasureT-loop
 μ-loop name names command₀ command = 10 - command
 
+abbrev start : tie.At-loop Inv-loop μ-loop → tie.Start Inv-loop μ-loop
+start at = at .before .before .before .before
+
+abbrev loop : tie.After-same Inv-loop μ-loop → tie.At-loop Inv-loop μ-loop
+loop s = s .before .before .before .before
+
 returns : tie.Need-returns Inv-loop μ-loop
 returns c = record { named = λ h. inr (no-bytes _ (c .if1 .taken), refl); unnamed = λ h. absurd (omega arith) }
 
@@ -51,8 +57,9 @@ loop-less c = search needs
 loop-again : tie.Need-loop-again Inv-loop μ-loop
 loop-again c =
     let s = c .before in
-    let l = s .before .before .before .before .loop in
-    (omega arith, below-more (λ k. s .before .before .before .before .before .before .before .before .args .name .now ≡ wordAt commandNames k → ⊥) (l .command) (l .inv .1) (λ e. never (c .if2 .left) (s .same .ensures .1 (e ∙ sym (s .before .word .ensures)))))
+    let at = loop s in
+    let l = at .loop in
+    (omega arith, below-more (λ k. start at .args .name .now ≡ wordAt commandNames k → ⊥) (l .command) (l .inv .1) (λ e. never (c .if2 .left) (s .same .ensures .1 (e ∙ sym (s .before .word .ensures)))))
 
 returns-3 : tie.Need-returns-3 Inv-loop μ-loop
 returns-3 c =

@@ -14,6 +14,9 @@ Inv-loop text base i₀ i = (i ≤ length text) × (allDigits base (drop i text)
 abbrev μ-loop : tie.MeasureT-loop
 μ-loop text base i₀ i = length text - i
 
+abbrev start : tie.At-loop Inv-loop μ-loop → tie.Start Inv-loop μ-loop
+start at = at .before .before
+
 loop-holds : tie.Need-loop-holds Inv-loop μ-loop
 loop-holds c = (omega arith, refl)
 
@@ -26,8 +29,9 @@ digit-requires c κs = search needs
 returns : tie.Need-returns Inv-loop μ-loop
 returns c =
     let d = c .before in
-    let l = d .before .before .before .loop in
-    let a = d .before .before .before .before .before .args in
+    let at = d .before .before .before in
+    let l = at .loop in
+    let a = start at .args in
     sym (digits-stop (a .text .now) (l .i) (d .before .before .loop-test .taken) (a .base) (omega (arith, d .digit .ensures, c .if1 .taken))) ∙ l .inv .1
 
 add-i : tie.Need-add-i Inv-loop μ-loop
@@ -39,14 +43,15 @@ loop-less c = search needs
 loop-again : tie.Need-loop-again Inv-loop μ-loop
 loop-again c =
     let d = c .before in
-    let l = d .before .before .before .loop in
-    let a = d .before .before .before .before .before .args in
+    let at = d .before .before .before in
+    let l = at .loop in
+    let a = start at .args in
     (omega arith, sym (digits-on (a .text .now) (l .i) (d .before .before .loop-test .taken) (a .base) (omega (arith, d .digit .ensures, c .if1 .left))) ∙ l .inv .1)
 
 returns-2 : tie.Need-returns-2 Inv-loop μ-loop
 returns-2 c =
     let l = c .before .loop in
-    let a = c .before .before .before .args in
+    let a = start (c .before) .args in
     sym (digits-ended (a .base) (a .text .now) (l .i) (c .loop-test .left)) ∙ l .inv .1
 
 pub are-digits-spec : {M : Type 1} → statement M

@@ -16,6 +16,9 @@ Inv-loop text out₀ i₀ out i = (i ≤ length text / 2) × (i ≤ length out�
 abbrev μ-loop : tie.MeasureT-loop
 μ-loop text out₀ i₀ out i = length text / 2 - i
 
+abbrev start : tie.At-loop Inv-loop μ-loop → tie.Start Inv-loop μ-loop
+start at = at .before .before .before
+
 loop-holds : tie.Need-loop-holds Inv-loop μ-loop
 loop-holds c = (omega arith, omega arith, refl, refl)
 
@@ -49,8 +52,9 @@ loop-less c = search needs
 loop-again : tie.Need-loop-again Inv-loop μ-loop
 loop-again c =
     let t = c .before .before .before in
-    let l = t .before .before .loop in
-    let a = t .before .before .before .before .before .args in
+    let at = t .before .before in
+    let l = at .loop in
+    let a = start at .args in
     let h = ltb-true (l .i) (length (l .out)) (t .if1 .taken) in
     (omega arith, omega arith, length-set (l .out) (l .i) (c .pair .result) ∙ l .inv .2, fill-again (l .i) (byteAt (a .text .now)) (a .out .now) (l .out) 0 (c .pair .result) (omega arith) (l .inv .3) (c .pair .ensures))
 
@@ -59,8 +63,9 @@ same-length c = c .before .before .loop .inv .2
 
 returns : tie.Need-returns Inv-loop μ-loop
 returns c =
-    let l = c .before .before .loop in
-    let a = c .before .before .before .before .before .args in
+    let at = c .before .before in
+    let l = at .loop in
+    let a = start at .args in
     (omega (arith, ltb-false (l .i) (length (l .out)) (c .if1 .left)), bytes-put (a .text .now) (a .out .now) (l .out) (l .i) (omega arith) (l .inv .3))
 
 same-length-2 : tie.Need-same-length-2 Inv-loop μ-loop
@@ -69,7 +74,7 @@ same-length-2 c = c .before .loop .inv .2
 returns-2 : tie.Need-returns-2 Inv-loop μ-loop
 returns-2 c =
     let l = c .before .loop in
-    let a = c .before .before .before .before .args in
+    let a = start (c .before) .args in
     (omega arith, bytes-put (a .text .now) (a .out .now) (l .out) (l .i) (omega arith) (l .inv .3))
 
 pub put-bytes-spec : {M : Type 1} → statement M

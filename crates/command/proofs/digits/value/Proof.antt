@@ -14,6 +14,9 @@ Inv-loop text found₀ i₀ found i = (i ≤ length text) × (found ≤ 65535) �
 abbrev μ-loop : tie.MeasureT-loop
 μ-loop text found₀ i₀ found i = length text - i
 
+abbrev start : tie.At-loop Inv-loop μ-loop → tie.Start Inv-loop μ-loop
+start at = at .before .before
+
 loop-holds : tie.Need-loop-holds Inv-loop μ-loop
 loop-holds c = (omega arith, omega arith, refl)
 
@@ -31,8 +34,9 @@ loop-less c = search needs
 
 loop-again : tie.Need-loop-again Inv-loop μ-loop
 loop-again c =
-    let l = c .before .before .before .loop in
-    let s = c .before .before .before .before .before .args .text .now in
+    let at = c .before .before .before in
+    let l = at .loop in
+    let s = start at .args .text .now in
     let rest = drop (l .i + 1) s in (
       omega arith,
       omega (arith, c .longer .ensures),
@@ -44,7 +48,7 @@ loop-again c =
 returns : tie.Need-returns Inv-loop μ-loop
 returns c =
     let l = c .before .loop in
-    let s = c .before .before .before .args .text .now in
+    let s = start (c .before) .args .text .now in
     omega (arith, value-ended (l .found) s (l .i) (c .loop-test .left), l .inv .1, l .inv .2)
 
 pub value-spec : {M : Type 1} → statement M

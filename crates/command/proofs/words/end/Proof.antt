@@ -14,6 +14,9 @@ Inv-loop line at₀ at = (at ≤ length line) × (at + wordEnd (drop at line) �
 abbrev μ-loop : tie.MeasureT-loop
 μ-loop line at₀ at = length line - at
 
+abbrev start : tie.At-loop Inv-loop μ-loop → tie.Start Inv-loop μ-loop
+start at = at .before
+
 loop-holds : tie.Need-loop-holds Inv-loop μ-loop
 loop-holds c = (omega arith, omega arith)
 
@@ -22,8 +25,9 @@ shared-slice-read-if1 c = search needs
 
 returns : tie.Need-returns Inv-loop μ-loop
 returns c =
-    let l = c .before .before .before .loop in
-    let h = end-here (c .before .before .before .before .args .line .now) (l .at) (c .before .before .loop-test .taken) (c .if1 .taken) in
+    let test = c .before .before in
+    let l = test .before .loop in
+    let h = end-here (start (test .before) .args .line .now) (l .at) (test .loop-test .taken) (c .if1 .taken) in
     (omega arith, omega arith)
 
 add-at : tie.Need-add-at Inv-loop μ-loop
@@ -34,14 +38,15 @@ loop-less c = search needs
 
 loop-again : tie.Need-loop-again Inv-loop μ-loop
 loop-again c =
-    let l = c .before .before .before .loop in
-    let h = end-on (c .before .before .before .before .args .line .now) (l .at) (c .before .before .loop-test .taken) (c .if1 .left) in
+    let test = c .before .before in
+    let l = test .before .loop in
+    let h = end-on (start (test .before) .args .line .now) (l .at) (test .loop-test .taken) (c .if1 .left) in
     (omega arith, omega arith)
 
 returns-2 : tie.Need-returns-2 Inv-loop μ-loop
 returns-2 c =
     let l = c .before .loop in
-    let h = end-ended (c .before .before .args .line .now) (l .at) (c .loop-test .left) in
+    let h = end-ended (start (c .before) .args .line .now) (l .at) (c .loop-test .left) in
     (omega arith, omega arith)
 
 pub end-spec : {M : Type 1} → statement M

@@ -14,6 +14,9 @@ Inv-loop line found₀ i₀ found i = (i ≤ length line) × (found + separators
 abbrev μ-loop : tie.MeasureT-loop
 μ-loop line found₀ i₀ found i = length line - i
 
+abbrev start : tie.At-loop Inv-loop μ-loop → tie.Start Inv-loop μ-loop
+start at = at .before .before
+
 loop-holds : tie.Need-loop-holds Inv-loop μ-loop
 loop-holds c = (omega arith, omega arith, omega arith)
 
@@ -34,13 +37,14 @@ loop-less c = search needs
 
 loop-again : tie.Need-loop-again Inv-loop μ-loop
 loop-again c =
-    let l = c .before .before .before .loop in
-    let s = c .before .before .before .before .before .args .line .now in
+    let at = c .before .before .before in
+    let l = at .loop in
+    let s = start at .args .line .now in
     let h = separators-on s (l .i) (c .before .before .loop-test .taken) in
     (omega arith, omega arith, omega arith)
 
 returns : tie.Need-returns Inv-loop μ-loop
-returns c = omega (arith, separators-ended (c .before .before .before .args .line .now) (c .before .loop .i) (c .loop-test .left))
+returns c = omega (arith, separators-ended (start (c .before) .args .line .now) (c .before .loop .i) (c .loop-test .left))
 
 pub others-spec : {M : Type 1} → statement M
 others-spec =

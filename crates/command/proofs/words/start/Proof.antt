@@ -15,6 +15,9 @@ Inv-loop line k left₀ at₀ left at = (at ≤ length line) × (fromWord (drop 
 abbrev μ-loop : tie.MeasureT-loop
 μ-loop line k left₀ at₀ left at = length line - at
 
+abbrev start : tie.At-loop Inv-loop μ-loop → tie.Start Inv-loop μ-loop
+start at = at .before .before
+
 loop-holds : tie.Need-loop-holds Inv-loop μ-loop
 loop-holds c = (omega arith, refl)
 
@@ -36,20 +39,22 @@ loop-less c = search needs
 loop-again : tie.Need-loop-again Inv-loop μ-loop
 loop-again c =
     let t = c .before .before in
-    let l = t .before .before .loop in
-    let s = t .before .before .before .before .args .line .now in
+    let at = t .before .before in
+    let l = at .loop in
+    let s = start at .args .line .now in
     (omega arith, ap (λ n. fromWord (drop (l .at + 1) s) (l .left - n)) (c .separates .ensures .0) ∙ sym (from-on s (l .at) (t .before .loop-test .taken) (l .left) (ltb-true 0 (l .left) (t .if1 .taken))) ∙ l .inv .1)
 
 returns : tie.Need-returns Inv-loop μ-loop
 returns c =
-    let l = c .before .before .loop in
-    let s = c .before .before .before .before .args .line .now in
+    let at = c .before .before in
+    let l = at .loop in
+    let s = start at .args .line .now in
     (omega arith, from-found s (l .at) (l .left) (omega (arith, ltb-false 0 (l .left) (c .if1 .left))) ∙ l .inv .1)
 
 returns-2 : tie.Need-returns-2 Inv-loop μ-loop
 returns-2 c =
     let l = c .before .loop in
-    let s = c .before .before .before .args .line .now in
+    let s = start (c .before) .args .line .now in
     (omega arith, from-done s (l .at) (l .left) (c .loop-test .left) ∙ l .inv .1)
 
 pub start-spec : {M : Type 1} → statement M

@@ -1,0 +1,30 @@
+-- What a caller of `list` knows when it answers and when it refuses; and that no two answers say the same.
+use Prim.Native.Nat.{ℕ}
+use mathlib.Core.Path.{_≡_, ap}
+use mathlib.Core.Bool.{Bool}
+use mathlib.Core.List.{List, [], _∷_, _++_}
+use lib.ListN.{length, drop}
+use Rattle.refusal.specs.declared.Refusal.{Refusal}
+use Rattle.refusal.specs.Checks.{passed, refused, outcome}
+use Rattle.refusal.proofs.Contracts.{Distinct, same-refusal, meets-values, meets-refusal}
+use Rattle.listing.specs.declared.Listed.{Listed}
+use Rattle.listing.specs.declared.Listed.the-variants.{Length, Refused}
+use Rattle.listing.specs.Listing.{listingOfFile, listChecks, listedSays, Lists}
+
+module _ (wrapped : Bool) (f before : List ℕ) (a : Listed) (after : List ℕ) (m : Lists wrapped f before a after) where
+  abbrev text : List ℕ
+  text = listingOfFile wrapped f
+
+  pub list-answers : (l : ℕ) → a ≡ Length l → (outcome (listChecks wrapped f (length before)) ≡ passed) × (l ≡ length (listingOfFile wrapped f)) × (after ≡ listingOfFile wrapped f ++ drop (length (listingOfFile wrapped f)) before)
+  list-answers l e =
+      let v = meets-values listedSays (outcome (listChecks wrapped f (length before))) (length text ∷ []) text before a after m (l ∷ []) (ap listedSays e) in
+      (v .0, cc (v .1), v .2)
+
+  pub list-refuses : (r : Refusal) → a ≡ Refused r → (outcome (listChecks wrapped f (length before)) ≡ refused r) × (after ≡ before)
+  list-refuses r e = meets-refusal listedSays (outcome (listChecks wrapped f (length before))) (length text ∷ []) text before a after m r (ap listedSays e)
+
+pub listed-distinct : Distinct listedSays
+listed-distinct (Length l) (Length m) e = cc
+listed-distinct (Length l) (Refused r) e = cc
+listed-distinct (Refused r) (Length m) e = cc
+listed-distinct (Refused r) (Refused s) e = ap Refused (same-refusal r s e)

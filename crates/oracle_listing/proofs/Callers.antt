@@ -1,0 +1,48 @@
+-- What a caller of `of_table` or `oracle_listing` knows when it answers and when it refuses; and how much room every table's text has in.
+use Prim.Native.Nat.{ℕ, _+_, _*_, _≤_}
+use native.Mathlib.Omega.{arith}
+use mathlib.Core.Path.{_≡_, ap}
+use mathlib.Core.Bool.{true}
+use mathlib.Core.List.{List, [], _∷_, _++_}
+use lib.ListN.{length, drop}
+use lib.Pow.{pow-mono}
+use Rattle.refusal.specs.declared.Refusal.{Refusal}
+use Rattle.refusal.specs.Checks.{passed, refused, outcome}
+use Rattle.refusal.proofs.Contracts.{meets-values, meets-refusal}
+use Rattle.table.specs.Table.{tableChecks, valueAt}
+use Rattle.table.proofs.Callers.{good-variables}
+use Rattle.circuit.specs.Gates.{AllSound}
+use Rattle.circuit.specs.File.{wiresOf, gatesOf}
+use Rattle.circuit.proofs.Files.{list-written, wires-written, length-file}
+use Rattle.build.specs.Construction.{builtFile, construction}
+use Rattle.build.proofs.Files.{built-long, built-gates, built-wires}
+use Rattle.build.proofs.Circuits.{sound-construction}
+use Rattle.fold.specs.Fold.{folded}
+use Rattle.fold.proofs.Folding.{folded-sound, folded-shorter}
+use Rattle.listing.specs.declared.Listed.{Listed}
+use Rattle.listing.specs.declared.Listed.the-variants.{Length, Refused}
+use Rattle.listing.specs.Listing.{listedSays}
+use Rattle.listing.proofs.Lengths.{listing-short}
+use Rattle.oracle_listing.specs.Oracle.{foldedListing, oracleText, oracleChecks, ListsOracle}
+
+module _ (n : ℕ) (t before : List ℕ) (a : Listed) (after : List ℕ) (m : ListsOracle n t before a after) where
+  pub oracle-answers : (l : ℕ) → a ≡ Length l → (outcome (oracleChecks n t (length before)) ≡ passed) × (l ≡ length (oracleText n t)) × (after ≡ oracleText n t ++ drop (length (oracleText n t)) before)
+  oracle-answers l e =
+      let v = meets-values listedSays (outcome (oracleChecks n t (length before))) (length (oracleText n t) ∷ []) (oracleText n t) before a after m (l ∷ []) (ap listedSays e) in
+      (v .0, cc (v .1), v .2)
+
+  pub oracle-refuses : (r : Refusal) → a ≡ Refused r → (outcome (oracleChecks n t (length before)) ≡ refused r) × (after ≡ before)
+  oracle-refuses r e = meets-refusal listedSays (outcome (oracleChecks n t (length before))) (length (oracleText n t) ∷ []) (oracleText n t) before a after m r (ap listedSays e)
+
+-- 65,536 bytes are room for every table's text
+pub room-for-text : (n : ℕ) (t : List ℕ) → outcome (tableChecks n t) ≡ passed → length (oracleText n t) ≤ 65536
+room-for-text n t e =
+    let v = good-variables n t e in
+    let f = builtFile n t in
+    let gs = folded (wiresOf f) (gatesOf f) in
+    let g : gatesOf f ≡ construction n (valueAt t) = built-gates n t (v .0) (v .1) in
+    let w : wiresOf f ≡ n + 1 = built-wires n t (v .0) (v .1) in
+    let s : AllSound (wiresOf f) (gatesOf f) = rw (g, w) (sound-construction n (valueAt t)) in
+    let l : length (foldedListing f) ≤ 64 + 32 * length gs = rw (list-written (wiresOf f) gs (folded-sound (wiresOf f) (gatesOf f) s), wires-written (wiresOf f) gs) (listing-short true (wiresOf f) gs (omega (arith, w, v .1)) (folded-sound (wiresOf f) (gatesOf f) s)) in
+    let k = length-file (n + 1) (construction n (valueAt t)) in
+    omega (arith, l, folded-shorter (wiresOf f) (gatesOf f), ap length g, k, built-long n t (v .0), pow-mono {i = n + 4} {j = 12} (omega (arith, v .1)))
