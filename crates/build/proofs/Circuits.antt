@@ -35,9 +35,6 @@ pub sum-same : (m c : ℕ) → sum m (λ k. c) ≡ m * c
 sum-same zero c = sym (zero-mul c)
 sum-same (suc m) c = ap (_+ c) (sum-same m c) ∙ sym (suc-mul m c)
 
-pub length-first : (angleAt : ℕ → ℕ) → length (block 0 angleAt) ≡ 1
-length-first angleAt = refl
-
 pub length-block : (j : ℕ) (angleAt : ℕ → ℕ) → length (block (suc j) angleAt) ≡ 2 ^ suc j * 2
 length-block j angleAt = length-inTurn (2 ^ suc j) (pairAt (suc j) angleAt) ∙ sum-same (2 ^ suc j) 2
 
