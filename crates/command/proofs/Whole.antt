@@ -25,8 +25,8 @@ use Rattle.fold.specs.Fold.{folded, foldedFile, foldedSays, Folds}
 use Rattle.listing.specs.declared.Listed.{Listed}
 use Rattle.listing.specs.Listing.{listingOfFile, listedSays, Lists}
 use Rattle.verdict.specs.declared.Compared.{Compared}
-use Rattle.verdict.specs.Coefficients.{coefficient, idealCoefficient, differences}
-use Rattle.verdict.specs.Verdicts.{circuit, ideal, verdict}
+use Rattle.coefficients.specs.Coefficients.{coefficient, idealCoefficient}
+use Rattle.verdict.specs.Verdicts.{circuit, ideal, verdict, differences}
 use Rattle.verdict.specs.Judging.{verdictValues, comparedSays, workChecks, Compares, Judges}
 use Rattle.command.proofs.Cuts.{file-cut, file-whole, table-cut, table-whole}
 

@@ -16,8 +16,8 @@ use Rattle.running.specs.Masks.{masksFrom, sumMet}
 use Rattle.build.specs.Gray.{turned, word}
 use Rattle.build.specs.Construction.{construction}
 use Rattle.fold.specs.Fold.{foldedFrom, folded}
-use Rattle.verdict.specs.Coefficients.{coefficient, differences}
-use Rattle.verdict.specs.Verdicts.{verdict}
+use Rattle.coefficients.specs.Coefficients.{coefficient}
+use Rattle.verdict.specs.Verdicts.{verdict, differences}
 use Rattle.numbers.specs.Search.{least}
 use Rattle.listing.specs.Text.{decimalFrom}
 use Rattle.listing.specs.Fractions.{denominator}

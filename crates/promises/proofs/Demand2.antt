@@ -8,15 +8,14 @@ use lib.ListN.{length, getD, drop, List·getD-append}
 use lib.IntN.{ℤ, pos}
 use Rattle.numbers.proofs.Lists.{getD-list}
 use Rattle.refusal.specs.Checks.{passed, outcome}
-use Rattle.refusal.proofs.Outcomes.{front-passes}
+use Rattle.refusal.proofs.Outcomes.{parts-pass}
 use Rattle.refusal.proofs.Contracts.{when-passed}
 use Rattle.table.specs.Table.{tableChecks, valueAt}
 use Rattle.table.proofs.Callers.{good-variables}
 use Rattle.spectrum.specs.declared.Transformed.{Transformed}
 use Rattle.spectrum.specs.declared.Transformed.the-variants.{Entries}
 use Rattle.spectrum.specs.Spectrum.{coefficient, spectrumOf, spectrumChecks, transformedSays, Transforms}
-use Rattle.spectrum.proofs.Spectra.{length-spectrum}
-use Rattle.spectrum.proofs.Answers.{transformed-distinct}
+use Rattle.spectrum.proofs.Callers.{transformed-distinct, length-spectrum}
 use Rattle.circuit.specs.File.{wiresOf, countOf, gatesOf, fileChecks}
 use Rattle.circuit.specs.Bytes.{Bytes}
 use Rattle.running.specs.declared.Ran.{Ran}
@@ -28,8 +27,8 @@ use Rattle.running.proofs.Callers.{ran-distinct, counted-distinct}
 use Rattle.build.specs.declared.Built.{Built}
 use Rattle.build.specs.declared.Built.the-variants.{Length}
 use Rattle.build.specs.Construction.{construction, builtFile, buildChecks, builtSays, Builds}
-use Rattle.build.proofs.Oracles.{built-gates, built-wires, built-count}
-use Rattle.build.proofs.Answers.{built-distinct}
+use Rattle.build.proofs.Files.{built-wires, built-count, built-gates}
+use Rattle.build.proofs.Callers.{built-distinct}
 use Rattle.fold.specs.declared.Folded.{Folded}
 use Rattle.fold.specs.declared.Folded.the-variants.{File}
 use Rattle.fold.specs.Fold.{folded, foldedFile, foldChecks, foldedSays, Folds}
@@ -65,7 +64,7 @@ pub record PaperBuilt (n : ℕ) (t out : List ℕ) (answer : Built) (after : Lis
 pub build-paper : (n : ℕ) (t out : List ℕ) (a : Built) (after : List ℕ) → Builds n t out a after → outcome (buildChecks n t (length out)) ≡ passed → PaperBuilt n t out a after
 build-paper n t out a after m p =
     let r = when-passed builtSays _ _ (builtFile n t) out a after p m in
-    let v = good-variables n t (front-passes (tableChecks n t) _ p) in
+    let v = good-variables n t (parts-pass (tableChecks n t) _ p .0) in
     record {
       answers = built-distinct a (Length (2 ^ (n + 4))) (r .0);
       holds = r .1;
@@ -84,7 +83,7 @@ pub record PaperFolded (f out : List ℕ) (answer : Folded) (after : List ℕ) :
 pub fold-paper : (f out : List ℕ) (a : Folded) (after : List ℕ) → Bytes f → Folds f out a after → outcome (foldChecks f (length out)) ≡ passed → PaperFolded f out a after
 fold-paper f out a after b m p =
     let r = when-passed foldedSays _ _ (foldedFile f) out a after p m in
-    record { answers = folded-distinct a (File (length (foldedFile f)) (score (gatesOf f)) (score (folded (wiresOf f) (gatesOf f)))) (r .0); holds = r .1; gates = gates-of-folded 0 f b (front-passes (fileChecks 0 f) _ p); wires = same-wires f }
+    record { answers = folded-distinct a (File (length (foldedFile f)) (score (gatesOf f)) (score (folded (wiresOf f) (gatesOf f)))) (r .0); holds = r .1; gates = gates-of-folded 0 f b (parts-pass (fileChecks 0 f) _ p .0); wires = same-wires f }
 
 -- "the end state and phase of a run"
 pub run-paper : (f : List ℕ) (start : ℕ) (a : Ran) → Runs f start a → outcome (runChecks f start) ≡ passed → a ≡ End (endFrom (gatesOf f) start) (phaseFrom (gatesOf f) start)

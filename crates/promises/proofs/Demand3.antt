@@ -17,7 +17,7 @@ use Rattle.circuit.specs.File.{wiresOf, gatesOf, fileChecks}
 use Rattle.circuit.specs.Bytes.{Bytes}
 use Rattle.circuit.proofs.FileBytes.{file-bytes}
 use Rattle.build.specs.Construction.{construction, builtFile}
-use Rattle.build.proofs.Oracles.{built-passes, built-wires, built-run, few-gates}
+use Rattle.build.proofs.Files.{built-passes, built-wires, built-run, few-gates}
 use Rattle.build.proofs.Circuits.{sound-construction}
 use Rattle.fold.specs.Fold.{foldedFile}
 use Rattle.fold.proofs.Files.{same-wires, folded-passes, file-end, file-phase}
@@ -27,7 +27,8 @@ use Rattle.verdict.specs.declared.Compared.the-variants.{Found}
 use Rattle.verdict.specs.Verdicts.{circuit, ideal, verdict}
 use Rattle.verdict.specs.Judging.{Compares, Judges}
 use Rattle.verdict.proofs.Lowest.{Agree}
-use Rattle.promises.proofs.Verdicts.{compare-all-same, compare-passes, judge-gives, judge-same, judge-all-same, judge-passes, Parted, verdict-either}
+use Rattle.verdict.proofs.Callers.{compare-passes, judge-gives, judge-passes}
+use Rattle.promises.proofs.Verdicts.{compare-all-same, judge-same, judge-all-same, Parted, verdict-either}
 use Rattle.promises.proofs.Tables.{tables-same}
 
 -- "A folded circuit is always the same as its original."

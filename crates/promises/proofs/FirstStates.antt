@@ -16,13 +16,12 @@ use Rattle.circuit.specs.Gates.{bytesOf, gatesFrom}
 use Rattle.circuit.specs.File.{wiresOf, gatesOf, fileOf}
 use Rattle.running.specs.Run.{endFrom, phaseFrom, totalFrom}
 use Rattle.build.specs.Construction.{builtFile}
-use Rattle.build.proofs.Oracles.{built-wires}
+use Rattle.build.proofs.Files.{built-wires}
 use Rattle.verdict.specs.declared.Verdict.{Verdict}
 use Rattle.verdict.specs.declared.Verdict.the-variants.{Same}
 use Rattle.verdict.specs.declared.Compared.the-variants.{Found}
 use Rattle.verdict.specs.Verdicts.{circuit}
-use Rattle.verdict.specs.Working.{Lowest}
-use Rattle.verdict.proofs.Lowest.{Agree, lowest-part}
+use Rattle.verdict.proofs.Lowest.{Agree, lowest-part, Lowest}
 use Rattle.promises.proofs.Verdicts.{compare-same}
 use Rattle.promises.specs.Wrong.{Unacceptable, comparing, verdictAmong, TriesFirst}
 use Rattle.promises.proofs.Demand3.{built-agrees}

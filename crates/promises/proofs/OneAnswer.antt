@@ -8,7 +8,7 @@ use Rattle.refusal.proofs.Contracts.{one-said, one-answer}
 use Rattle.table.specs.Table.{Checks}
 use Rattle.table.proofs.Callers.{checked-distinct}
 use Rattle.spectrum.specs.Spectrum.{transformedSays, Transforms}
-use Rattle.spectrum.proofs.Answers.{transformed-distinct}
+use Rattle.spectrum.proofs.Callers.{transformed-distinct}
 use Rattle.circuit.specs.declared.Decoded.{Decoded}
 use Rattle.circuit.specs.Gates.{decoded}
 use Rattle.circuit.specs.File.{Reads}
@@ -16,11 +16,11 @@ use Rattle.circuit.proofs.Callers.{reading-distinct}
 use Rattle.running.specs.Run.{Runs, Counts}
 use Rattle.running.proofs.Callers.{ran-distinct, counted-distinct}
 use Rattle.build.specs.Construction.{builtSays, Builds}
-use Rattle.build.proofs.Answers.{built-distinct}
+use Rattle.build.proofs.Callers.{built-distinct}
 use Rattle.fold.specs.Fold.{foldedSays, Folds}
 use Rattle.fold.proofs.Callers.{folded-distinct}
 use Rattle.verdict.specs.Judging.{comparedSays, Compares, Judges}
-use Rattle.verdict.proofs.Answers.{compared-distinct}
+use Rattle.verdict.proofs.Callers.{compared-distinct}
 use Rattle.listing.specs.Listing.{listedSays, Lists}
 use Rattle.listing.proofs.Callers.{listed-distinct}
 use Rattle.oracle_listing.specs.Oracle.{ListsOracle}

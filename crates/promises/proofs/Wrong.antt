@@ -1,17 +1,16 @@
 -- 01, "These programs are to be shown unacceptable", as theorems over the contracts, each with the input that shows it.
-use Prim.Native.Nat.{ℕ, zero, suc, _≤_}
+use Prim.Native.Nat.{ℕ, zero, suc}
 use native.Mathlib.Omega.{arith}
 use mathlib.Core.Path.{_≡_, refl, sym, ap, _∙_}
 use mathlib.Core.Bool.{false}
-use mathlib.Core.Logic.{inr}
 use mathlib.Core.List.{List, [], _∷_, _++_}
 use lib.ListN.{length, getD, replicate, length-replicate}
 use lib.Count.{ones}
 use lib.IntN.{pos}
 use Rattle.numbers.specs.Bits.{subset}
-use Rattle.refusal.specs.Checks.{Check, passed, outcome, roomCheck}
-use Rattle.refusal.proofs.Outcomes.{reaches, then-passed}
+use Rattle.refusal.specs.Checks.{Check, passed, outcome}
 use Rattle.refusal.specs.Contract.{Said, Says}
+use Rattle.refusal.proofs.Rooms.{room-suffices}
 use Rattle.refusal.proofs.Contracts.{says-refused}
 use Rattle.table.specs.Table.{tableChecks, checkedSays}
 use Rattle.spectrum.specs.Spectrum.{spectrumChecks, transformedSays}
@@ -28,8 +27,8 @@ use Rattle.fold.specs.Fold.{foldedFrom, foldChecks, foldedSays, Folds}
 use Rattle.verdict.specs.declared.Verdict.{Verdict}
 use Rattle.verdict.specs.declared.Verdict.the-variants.{Same, Different}
 use Rattle.verdict.specs.declared.Compared.the-variants.{Found}
-use Rattle.verdict.specs.Coefficients.{coefficient, idealCoefficient, differences}
-use Rattle.verdict.specs.Verdicts.{verdict}
+use Rattle.coefficients.specs.Coefficients.{coefficient, idealCoefficient}
+use Rattle.verdict.specs.Verdicts.{verdict, differences}
 use Rattle.numbers.specs.Search.{least}
 use Rattle.verdict.specs.Judging.{compareChecks, judgeChecks, comparedSays, Compares, Judges}
 use Rattle.listing.specs.Listing.{headLines, wrapLine, gateLines, listingOf, listChecks, listedSays}
@@ -56,9 +55,6 @@ never said checks vs a p m r = let e = sym p ∙ says-refused (outcome checks) v
 one-variable : outcome (tableChecks 1 (2 ∷ [])) ≡ passed
 unfolding outcome
 one-variable = refl
-
-room-passes : (cs : List Check) (room need : ℕ) → outcome cs ≡ passed → need ≤ room → outcome (cs ++ roomCheck room need) ≡ passed
-room-passes cs room need e h = then-passed cs (roomCheck room need) e ∙ reaches (roomCheck room need) passed (inr (h, refl))
 
 -- by the table 02 of one variable, the empty circuit on 2 wires, and a slice with room
 pub check-refusing : Unacceptable checking (RefusesEverything checkedSays)
@@ -104,7 +100,7 @@ list-refusing = record { input = (false, empty, replicate 64 0); fails = λ a x 
 pub oracle-refusing : Unacceptable listingOracle (RefusesEverything listedSays)
 oracle-refusing = record {
   input = (1, 2 ∷ [], replicate 65536 0);
-  fails = λ a x r m. never listedSays (oracleChecks 1 (2 ∷ []) (length {A = ℕ} (replicate 65536 0))) _ a (room-passes (tableChecks 1 (2 ∷ [])) _ _ one-variable (omega (arith, room-for-text 1 (2 ∷ []) one-variable, length-replicate {A = ℕ} 65536 0))) (m .says) r;
+  fails = λ a x r m. never listedSays (oracleChecks 1 (2 ∷ []) (length {A = ℕ} (replicate 65536 0))) _ a (room-suffices (tableChecks 1 (2 ∷ [])) _ _ (λ e. omega (arith, room-for-text 1 (2 ∷ []) one-variable, length-replicate {A = ℕ} 65536 0)) ∙ one-variable) (m .says) r;
 }
 
 -- ---- a constant verdict

@@ -18,18 +18,6 @@ use Rattle.verdict.specs.declared.Compared.{Compared}
 use Rattle.verdict.specs.declared.Compared.the-variants.{Found, Refused}
 use Rattle.verdict.specs.Judging.{verdictValues, comparedSays, workChecks}
 
-pub verdict-distinct : (x y : Verdict) → verdictValues x ≡ verdictValues y → x ≡ y
-verdict-distinct Same Same e = refl
-verdict-distinct Same (Different s a b p) e = cc
-verdict-distinct (Different s a b p) Same e = cc
-verdict-distinct (Different s a b p) (Different t c d q) e = cc
-
-pub compared-distinct : Distinct comparedSays
-compared-distinct (Found x) (Found y) e = ap Found (verdict-distinct x y (cc))
-compared-distinct (Found x) (Refused s) e = cc
-compared-distinct (Refused r) (Found y) e = cc
-compared-distinct (Refused r) (Refused s) e = ap Refused (same-refusal r s e)
-
 -- the checks on wires and work
 module _ (w v : ℕ) (vs result before : List ℕ) where
   abbrev unlikeCheck : List Check

@@ -1,4 +1,4 @@
--- What callers of compare and judge know when they answer and when they refuse.
+-- What callers of `compare` and `judge` know when they answer and when they refuse; and that no two answers say the same.
 use Prim.Native.Nat.{ℕ, _+_, _^_, _<_, _≤_}
 use mathlib.Core.Path.{_≡_, refl, sym, ap, _∙_}
 use mathlib.Core.Logic.{inr}
@@ -8,18 +8,30 @@ use Rattle.refusal.specs.declared.Refusal.{Refusal}
 use Rattle.refusal.specs.Checks.{Outcome, passed, refused, outcome}
 use Rattle.refusal.specs.Contract.{Meets}
 use Rattle.refusal.proofs.Outcomes.{reaches, then-passed}
-use Rattle.refusal.proofs.Contracts.{when-passed, meets-values, meets-refusal}
+use Rattle.refusal.proofs.Contracts.{Distinct, same-refusal, when-passed, meets-values, meets-refusal}
 use Rattle.table.specs.Table.{tableChecks, valueAt}
 use Rattle.circuit.specs.File.{wiresOf, gatesOf, fileChecks}
 use Rattle.coefficients.specs.Coefficients.{coefficient, idealCoefficient}
 use Rattle.verdict.specs.declared.Verdict.{Verdict}
-use Rattle.verdict.specs.declared.Verdict.the-variants.{Different}
+use Rattle.verdict.specs.declared.Verdict.the-variants.{Same, Different}
 use Rattle.verdict.specs.declared.Compared.{Compared}
 use Rattle.verdict.specs.declared.Compared.the-variants.{Found, Refused}
 use Rattle.verdict.specs.Verdicts.{Side, circuit, ideal, verdict, differences}
 use Rattle.verdict.specs.Judging.{verdictValues, comparedSays, workChecks, compareChecks, judgeChecks, Compares, Judges}
 use Rattle.verdict.proofs.Lowest.{different-named}
-use Rattle.verdict.proofs.Answers.{verdict-distinct, compared-distinct}
+
+-- no two answers say the same
+pub verdict-distinct : (x y : Verdict) → verdictValues x ≡ verdictValues y → x ≡ y
+verdict-distinct Same Same e = refl
+verdict-distinct Same (Different s a b p) e = cc
+verdict-distinct (Different s a b p) Same e = cc
+verdict-distinct (Different s a b p) (Different t c d q) e = cc
+
+pub compared-distinct : Distinct comparedSays
+compared-distinct (Found x) (Found y) e = ap Found (verdict-distinct x y (cc))
+compared-distinct (Found x) (Refused s) e = cc
+compared-distinct (Refused r) (Found y) e = cc
+compared-distinct (Refused r) (Refused s) e = ap Refused (same-refusal r s e)
 
 -- of an answer, whichever of the two operations gave it
 module _ (o : Outcome) (w : ℕ) (a b : Side) (result before : List ℕ) (answer : Compared) (after : List ℕ) (m : Meets comparedSays o (verdictValues (verdict w a b)) result before answer after) where

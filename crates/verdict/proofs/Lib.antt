@@ -1,7 +1,7 @@
+pub mod Callers
 pub mod Lowest
 pub mod Scanning
 pub mod Sides
 mod Judging
-pub mod Answers
+mod Answers
 mod Summing
-pub mod Callers
