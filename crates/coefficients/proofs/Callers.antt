@@ -1,16 +1,16 @@
 -- What callers of summarise and summarise_ideal know when they answer and when they refuse.
 use Prim.Native.Nat.{ℕ, _+_, _<_, _≤_}
 use native.Mathlib.Omega.{arith}
-use native.Mathlib.Nat.{zero-add}
-use mathlib.Core.Path.{_≡_, ap, _∙_}
+use mathlib.Core.Path.{_≡_, sym, ap, _∙_}
 use mathlib.Core.List.{List, [], _∷_}
 use lib.ListN.{length, getD, drop, List·getD-append}
+use borrow.Author.Tests.{le-leb}
 use Rattle.numbers.specs.Sums.{list}
 use Rattle.numbers.proofs.Lists.{length-list, getD-list}
 use Rattle.refusal.specs.declared.Refusal.{Refusal}
 use Rattle.refusal.specs.Checks.{Outcome, passed, refused, outcome}
 use Rattle.refusal.specs.Contract.{Said, values, saidOf}
-use Rattle.refusal.proofs.Contracts.{answers-values, answers-refusal}
+use Rattle.refusal.proofs.Contracts.{Distinct, answers-values, answers-refusal}
 use Rattle.table.specs.declared.Checked.{Checked}
 use Rattle.table.specs.declared.Checked.the-variants.{Good, Refused as BadTable}
 use Rattle.table.specs.Table.{tableChecks, valueAt, checkedSays}
@@ -18,7 +18,6 @@ use Rattle.circuit.specs.declared.Reading.{Reading}
 use Rattle.circuit.specs.declared.Reading.the-variants.{Circuit, Refused as BadFile}
 use Rattle.circuit.specs.Bytes.{putAt}
 use Rattle.circuit.specs.File.{wiresOf, countOf, gatesOf, fileChecks, readingSays}
-use Rattle.circuit.proofs.Writing.{put-fits}
 use Rattle.coefficients.specs.Coefficients.{coefficients, singleEnds, idealCoefficients, idealEnds}
 use Rattle.coefficients.specs.Summaries.{SumsUp, Summarises, SummarisesIdeal}
 
@@ -35,6 +34,10 @@ pub record Unsummed (o : Outcome) (r : Refusal) (row₀ ends₀ row₁ ends₁ :
   pub ends : ends₁ ≡ ends₀
 
 module _ {Answer : Type 0} (said : Answer → Said) (o : Outcome) (vs cs es row₀ ends₀ : List ℕ) (answer : Answer) (row₁ ends₁ : List ℕ) (s : SumsUp said o vs cs es row₀ ends₀ answer row₁ ends₁) where
+  -- no second answer would satisfy it, nor any second content of the slices
+  pub one-summary : Distinct said → (answer′ : Answer) (row₂ ends₂ : List ℕ) → SumsUp said o vs cs es row₀ ends₀ answer′ row₂ ends₂ → (answer ≡ answer′) × (row₁ ≡ row₂) × (ends₁ ≡ ends₂)
+  one-summary d answer′ row₂ ends₂ t = (d answer answer′ (s .says ∙ sym (t .says)), s .row ∙ sym (t .row), s .ends ∙ sym (t .ends))
+
   answers : (ws : List ℕ) → said answer ≡ values ws → Summed o cs es row₀ ends₀ row₁ ends₁ × (ws ≡ vs)
   answers ws e =
       let v = answers-values said o vs answer (s .says) ws e in
@@ -74,5 +77,6 @@ module _ (n : ℕ) (t row₀ ends₀ : List ℕ) (answer : Checked) (row₁ ends
 pub put-entry : (n : ℕ) (f : ℕ → ℕ) (before after : List ℕ) → after ≡ putAt (list n f) 0 before → n ≤ length before → (i : ℕ) → i < n → getD after i 0 ≡ f i
 put-entry n f before after e h i k =
     let l = length-list n f in
-    ap (λ (v : List ℕ). getD v i 0) (e ∙ put-fits (list n f) 0 before (omega (arith, zero-add (length (list n f)))))
-    ∙ List·getD-append (list n f) (drop (0 + length (list n f)) before) 0 i (omega arith) ∙ getD-list n f i 0 k
+    let fits : 0 + length (list n f) ≤ length before = omega arith in
+    ap (λ (v : List ℕ). getD v i 0) e
+    ∙ rw (le-leb (0 + length (list n f)) (length before) fits) (List·getD-append (list n f) (drop (0 + length (list n f)) before) 0 i (omega arith) ∙ getD-list n f i 0 k)

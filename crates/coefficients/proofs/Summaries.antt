@@ -24,6 +24,7 @@ use Rattle.circuit.proofs.Callers.{few-states, Answered, read-answers}
 use Rattle.circuit.proofs.Files.{file-sound}
 use Rattle.running.specs.Masks.{mostWires, mostMasks, ownMasks, sumMet}
 use Rattle.running.specs.Groups.{groupTotal, totalsOf, masksOf, SumsGroups}
+use Rattle.running.proofs.Callers.{groups-answer}
 use Rattle.running.proofs.Masks.{own-below, length-masks}
 use Rattle.running.proofs.Groups.{collect}
 use Rattle.running.proofs.Meetings.{sumMet-≈}
@@ -71,8 +72,8 @@ pub record Grouped (side : ℕ) (f totals masks : List ℕ) (w g : ℕ) : Type 0
 pub grouped : (side : ℕ) (f totals masks : List ℕ) (r : Reading) (totals′ masks′ : List ℕ) → SumsGroups side f totals masks r totals′ masks′ → (w g : ℕ) → r ≡ Circuit w g → Grouped side f totals′ masks′ w g
 grouped side f totals masks r totals′ masks′ s w g e =
     let a = read-answers side f r (s .reads) w g e in
-    let p = a .passes in
-    record { read = a; sums = rw p at (s .sums); holds = rw p at (s .holds) }
+    let v = groups-answer side f s (a .passes) in
+    record { read = a; sums = v .0; holds = v .1 }
 
 module _ (side : ℕ) (f totals masks : List ℕ) (w g : ℕ) (s : Grouped side f totals masks w g) where
   size-is : (size : ℕ) → size ≡ 2 ^ w % 2 ^ 64 → size ≡ 2 ^ wiresOf f
