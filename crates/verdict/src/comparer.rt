@@ -15,20 +15,28 @@ ghost use Rattle.verdict.specs.Judging.{Compares, Judges};
 pub fn compare(first: &[u8], second: &[u8], work: &mut [u16]) -> Compared
     ensures { λ r. ⌜ Compares (now (first .entry)) (now (second .entry)) (now (work .entry)) r (now (work .exit)) ⌝ }
 {
-    let mut firsts = empty();
-    let mut ends = [0u16; WIRES];
-    let mut seconds = empty();
+    let mut first_row = empty();
+    let mut first_ends = [0u16; WIRES];
+    let mut second_row = empty();
     let mut second_ends = [0u16; WIRES];
-    let wires = match coefficients::summarise(first, 0, &mut firsts, &mut ends) {
+    let wires = match coefficients::summarise(first, 0, &mut first_row, &mut first_ends) {
         Reading::Refused(refusal) => return Compared::Refused(refusal),
         Reading::Circuit { wires, gates: _ } => wires,
     };
-    match coefficients::summarise(second, 1, &mut seconds, &mut second_ends) {
+    match coefficients::summarise(second, 1, &mut second_row, &mut second_ends) {
         Reading::Refused(refusal) => Compared::Refused(refusal),
         Reading::Circuit {
             wires: width,
             gates: _,
-        } => judge_summaries(wires, &firsts, &ends, width, &seconds, &second_ends, work),
+        } => judge_summaries(
+            wires,
+            &first_row,
+            &first_ends,
+            width,
+            &second_row,
+            &second_ends,
+            work,
+        ),
     }
 }
 
@@ -36,26 +44,26 @@ pub fn compare(first: &[u8], second: &[u8], work: &mut [u16]) -> Compared
 pub fn judge(n: u8, table: &[u8], file: &[u8], work: &mut [u16]) -> Compared
     ensures { λ r. ⌜ Judges n (now (table .entry)) (now (file .entry)) (now (work .entry)) r (now (work .exit)) ⌝ }
 {
-    let mut ideals = empty();
+    let mut ideal_row = empty();
     let mut ideal_ends = [0u16; WIRES];
-    let mut firsts = empty();
+    let mut row = empty();
     let mut ends = [0u16; WIRES];
     if let Checked::Refused(refusal) = coefficients::summarise_ideal(
         n,
         table,
-        &mut ideals,
+        &mut ideal_row,
         &mut ideal_ends,
     ) {
         return Compared::Refused(refusal);
     }
-    match coefficients::summarise(file, 0, &mut firsts, &mut ends) {
+    match coefficients::summarise(file, 0, &mut row, &mut ends) {
         Reading::Refused(refusal) => Compared::Refused(refusal),
         Reading::Circuit { wires, gates: _ } => judge_summaries(
             wires,
-            &firsts,
+            &row,
             &ends,
             n + 1,
-            &ideals,
+            &ideal_row,
             &ideal_ends,
             work,
         ),
