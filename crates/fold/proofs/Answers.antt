@@ -47,11 +47,11 @@ module _ (f before : List ℕ) where
         room-enough foldedSays (fileChecks 0 f) (length (foldedFile f)) (foldValues f) (foldedFile f) before e h r after (ap foldedSays d ∙ (λ i. values (p i ∷ q i ∷ s i ∷ []))) t
 
 -- what is known once the totals are tallied: how long the folded file will be, and what it scores
-pub record Room (f : List ℕ) (mixing stay scored : ℕ) : Type 0 where
+pub record Room (f : List ℕ) (crossing stay scored : ℕ) : Type 0 where
   pub after : scored ≡ score (folded (wiresOf f) (gatesOf f))
-  pub kept : mixing + stay ≡ length (folded (wiresOf f) (gatesOf f))
-  pub few : mixing + stay ≤ 2048
-  pub whole : 8 + 4 * (mixing + stay) ≡ length (foldedFile f)
+  pub kept : crossing + stay ≡ length (folded (wiresOf f) (gatesOf f))
+  pub few : crossing + stay ≤ 2048
+  pub whole : 8 + 4 * (crossing + stay) ≡ length (foldedFile f)
 
 module _ (f : List ℕ) (bytes : Bytes f) (e : outcome (fileChecks 0 f) ≡ passed) (ts : List ℕ) (t : ts ≡ totalsOf f) where
   -- a sum over the row is one over the groups
@@ -61,11 +61,11 @@ module _ (f : List ℕ) (bytes : Bytes f) (e : outcome (fileChecks 0 f) ≡ pass
       (ap (λ (n : ℕ). sum n (λ m. h (getD (totalsOf f) m 0))) (length-list mostMasks (groupTotal (wiresOf f) (gatesOf f)))
       ∙ sumOf-ext 0 _+_ mostMasks (λ m. h (getD (totalsOf f) m 0)) (λ m. h (groupTotal (wiresOf f) (gatesOf f) m)) (λ m l. ap h (total-at f (good-file 0 f e .few) m)))
 
-  pub room : (mixing stay scored : ℕ) → mixing ≡ cnots (gatesOf f) → stay ≡ keptIn ts → scored ≡ scoreIn ts → Room f mixing stay scored
-  room mixing stay scored p q r =
+  pub room : (crossing stay scored : ℕ) → crossing ≡ cnots (gatesOf f) → stay ≡ keptIn ts → scored ≡ scoreIn ts → Room f crossing stay scored
+  room crossing stay scored p q r =
       let few = good-file 0 f e .few in
       let gs = folded (wiresOf f) (gatesOf f) in
-      let k : mixing + stay ≡ length gs = ap₂ _+_ p (q ∙ of-totals staying) ∙ sym (length-folded (wiresOf f) (gatesOf f) mostWires few) in
+      let k : crossing + stay ≡ length gs = ap₂ _+_ p (q ∙ of-totals staying) ∙ sym (length-folded (wiresOf f) (gatesOf f) mostWires few) in
       record {
         after = r ∙ of-totals scores ∙ sym (score-of-totals (wiresOf f) (gatesOf f) mostWires few);
         kept = k;

@@ -4,6 +4,7 @@ ghost use Prim.Native.Nat.{_≤_};
 ghost use lib.ListN.{length};
 ghost use Rattle.refusal.specs.Checks.{outcome, passed};
 ghost use Rattle.circuit.specs.File.{fileChecks};
+ghost use Rattle.running.specs.Masks.{mostMasks};
 ghost use Rattle.running.specs.Groups.{totalsOf};
 ghost use Rattle.fold.specs.Working.{staying, keptIn, scoreIn};
 
@@ -32,7 +33,7 @@ fn stays(total: u16) -> u16
 }
 
 pub(crate) fn tally_of(totals: &[u16]) -> Tally
-    requires { ⌜ length (now totals) ≤ 1024 ⌝ }
+    requires { ⌜ length (now totals) ≤ mostMasks ⌝ }
     ensures { λ r. ⌜ (r .kept ≡ keptIn (now (totals .entry))) × (r .score ≡ scoreIn (now (totals .entry))) ⌝ }
 {
     let mut kept: u16 = 0;

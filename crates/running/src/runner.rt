@@ -12,9 +12,10 @@ ghost use Rattle.running.specs.declared.Ran.the-variants.{End};
 ghost use Rattle.circuit.specs.Gates.{Sound};
 ghost use Rattle.circuit.specs.File.{countOf, gatesOf, fileChecks};
 ghost use Rattle.running.specs.Run.{stepped, added, endFrom, phaseFrom, Runs};
+ghost use Rattle.running.specs.Masks.{mostWires};
 
 fn bit_of(state: u16, wire: u8) -> u16
-    requires { ⌜ wire < 10 ⌝ }
+    requires { ⌜ wire < mostWires ⌝ }
     ensures { λ r. ⌜ r ≡ bit state wire ⌝ }
 {
     (state >> wire) % 2
@@ -22,7 +23,7 @@ fn bit_of(state: u16, wire: u8) -> u16
 
 // The state after a gate.
 fn step(gate: Gate, state: u16) -> u16
-    requires { ⌜ Sound 10 gate ⌝ }
+    requires { ⌜ Sound mostWires gate ⌝ }
     ensures { λ r. ⌜ r ≡ stepped gate state ⌝ }
 {
     match gate {
@@ -33,7 +34,7 @@ fn step(gate: Gate, state: u16) -> u16
 
 // What a gate adds to the phase.
 fn turn(gate: Gate, state: u16) -> u16
-    requires { ⌜ Sound 10 gate ⌝ }
+    requires { ⌜ Sound mostWires gate ⌝ }
     ensures { λ r. ⌜ r ≡ added gate state ⌝ }
 {
     match gate {

@@ -3,8 +3,8 @@ use borrow.Author.Needs.{needs}
 use Rattle.coefficients.proofs.ideal.put_ideal.Statement.{statement}
 use Rattle.coefficients.proofs.ideal.put_ideal.Tie as tie
 
-abbrev turned : tie.After-gather → tie.After-put-turns
-turned c = c .before .before .before .before
+abbrev halved : tie.After-gather → tie.After-put-turns
+halved c = c .before .before .before .before
 
 abbrev start : tie.After-put-turns → tie.Start
 start c = c .before .before .before .before
@@ -21,7 +21,7 @@ same-length c = search needs
 returns : tie.Need-returns
 returns c =
     let g = c .before .before in
-    let t = turned g in
+    let t = halved g in
     let a = start t .args in
     turns-ideal (a .table .now) (a .v .now) (t .put-turns .last .1 .0) (g .gather .last .0) (t .put-turns .ensures) (g .gather .ensures)
 

@@ -3,8 +3,8 @@ use borrow.Author.Needs.{needs}
 use Rattle.running.proofs.grouper.add_gate.Statement.{statement}
 use Rattle.running.proofs.grouper.add_gate.Tie as tie
 
-abbrev mixing : tie.After-mix → tie.Start
-mixing c = c .before .before .before .before .before .before .before
+abbrev crossing : tie.After-mix → tie.Start
+crossing c = c .before .before .before .before .before .before .before
 
 abbrev phase : tie.After-mask-at → tie.After-gate2
 phase c = c .before .before .before
@@ -33,7 +33,7 @@ same-length c = search needs
 returns : tie.Need-returns
 returns c =
     let done = c .before .before in
-    let a = mixing done .args in
+    let a = crossing done .args in
     let v = done .before .before .before .gate .given in
     mixed-adds (a .gate) (a .masks .now) (a .totals .now) (v .0 .0) (v .0 .1 .0) (done .mix .last .0) (v .1) (done .mix .ensures)
 

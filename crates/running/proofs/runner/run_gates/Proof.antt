@@ -58,12 +58,12 @@ loop-less c = omega arith
 loop-again : tie.Need-loop-again Inv-loop μ-loop
 loop-again c =
     let added = c .before in
-    let turned = added .before in
-    let taken = turned .before in
+    let met = added .before in
+    let taken = met .before in
     let at = loop taken in
     let a = start at .args in
     walk-goes-on (a .file .now) (bytes at) (good at) (at .loop .i) (taken .good-gate .result) (omega (arith, start at .pre .1)) (taken .good-gate .ensures) runStep (a .start, 0) (at .loop .state, at .loop .phase) (c .step .result, added .wrapping-add-u16 .result)
-    (run-stepped (taken .good-gate .result) (at .loop .state) (at .loop .phase) (turned .turn .result) (c .step .result) (added .wrapping-add-u16 .result) (turned .turn .ensures) (c .step .ensures) (added .wrapping-add-u16 .ensures)) (at .loop .inv)
+    (run-stepped (taken .good-gate .result) (at .loop .state) (at .loop .phase) (met .turn .result) (c .step .result) (added .wrapping-add-u16 .result) (met .turn .ensures) (c .step .ensures) (added .wrapping-add-u16 .ensures)) (at .loop .inv)
 
 returns : tie.Need-returns Inv-loop μ-loop
 returns c =
