@@ -14,11 +14,11 @@ use Rattle.listing.specs.Text.{decimal, numbered}
 use Rattle.listing.specs.Words.{words}
 use Rattle.listing.specs.Fractions.{Fraction, fractionOf}
 use Rattle.listing.specs.Listing.{headLines, wrapLine, cnotLine, phaseLine, gateLine, gateLines, listingOf}
-use Rattle.listing.specs.Working.{longestLine}
+use Rattle.listing.specs.Working.{headLength, cnotLength, phaseLength, longestLine}
 use Rattle.listing.proofs.Decimals.{one-digit, two-digits, five-digits}
 use Rattle.listing.proofs.Fractions.{denominator-most, fraction-equals}
 
-pub head-long : (w : ℕ) → length (headLines w) ≡ length (words .version) + length (words .include) + length (words .register) + length (decimal w) + length (words .closing)
+pub head-long : (w : ℕ) → length (headLines w) ≡ headLength w
 unfolding headLines
 head-long w = omega (arith, length-append (decimal w) (words .closing))
 
@@ -30,12 +30,11 @@ pub no-wrap-long : (w : ℕ) → length (wrapLine false w) ≡ 0
 unfolding wrapLine
 no-wrap-long w = refl
 
-pub cnot-long : (c t : ℕ) → length (cnotLine c t) ≡ length (words .cnot) + length (decimal c) + length (words .target) + length (decimal t) + length (words .closing)
+pub cnot-long : (c t : ℕ) → length (cnotLine c t) ≡ cnotLength c t
 unfolding cnotLine
 cnot-long c t = omega (arith, length-append (decimal c) (numbered (words .target) t ++ words .closing), length-append (decimal t) (words .closing))
 
-pub phase-long : (i : ℕ) (f : Fraction) → length (phaseLine i f)
-    ≡ length (words .phase) + length (decimal (f .above)) + length (words .over) + length (decimal (f .below)) + length (words .wire) + length (decimal i) + length (words .closing)
+pub phase-long : (i : ℕ) (f : Fraction) → length (phaseLine i f) ≡ phaseLength i (f .above) (f .below)
 unfolding phaseLine
 phase-long i f =
     omega (arith, length-append (decimal (f .above)) (numbered (words .over) (f .below) ++ (numbered (words .wire) i ++ words .closing)), length-append (decimal (f .below)) (numbered (words .wire) i ++ words .closing), length-append (decimal i) (words .closing))

@@ -11,6 +11,7 @@ ghost use lib.ListN.{length};
 ghost use Rattle.circuit.specs.Bytes.{Wrote};
 ghost use Rattle.listing.specs.Fractions.{over, fractionOf};
 ghost use Rattle.listing.specs.Listing.{headLines, wrapLine, cnotLine, phaseLine, gateLine};
+ghost use Rattle.listing.specs.Working.{headLength, cnotLength, phaseLength};
 
 // How often an angle and 32,768 can both be halved.
 fn halvings(angle: u16) -> u16
@@ -21,7 +22,7 @@ fn halvings(angle: u16) -> u16
 
 // The length of the three header lines.
 pub(crate) fn head_length(wires: u8) -> usize
-    ensures { λ r. ⌜ r ≡ length (headLines wires) ⌝ }
+    ensures { λ r. ⌜ r ≡ headLength wires ⌝ }
 {
     words::VERSION.len()
         + words::INCLUDE.len()
@@ -63,27 +64,37 @@ pub(crate) fn put_wrap(wrapped: bool, wires: u8, out: &mut [u8], at: usize) -> u
     at
 }
 
+fn cnot_length(control: u8, target: u8) -> usize
+    ensures { λ r. ⌜ r ≡ cnotLength control target ⌝ }
+{
+    words::CNOT.len()
+        + digits(control as u16)
+        + words::TARGET.len()
+        + digits(target as u16)
+        + words::CLOSING.len()
+}
+
+fn phase_length(wire: u8, above: u16, below: u16) -> usize
+    ensures { λ r. ⌜ r ≡ phaseLength wire above below ⌝ }
+{
+    words::PHASE.len()
+        + digits(above)
+        + words::OVER.len()
+        + digits(below)
+        + words::WIRE.len()
+        + digits(wire as u16)
+        + words::CLOSING.len()
+}
+
 // The length of a gate's line.
 pub(crate) fn line_length(gate: Gate) -> usize
     ensures { λ r. ⌜ r ≡ length (gateLine gate) ⌝ }
 {
     match gate {
-        Gate::Cnot { control, target } => {
-            words::CNOT.len()
-                + digits(control as u16)
-                + words::TARGET.len()
-                + digits(target as u16)
-                + words::CLOSING.len()
-        }
+        Gate::Cnot { control, target } => cnot_length(control, target),
         Gate::Phase { wire, angle } => {
             let twos = halvings(angle);
-            words::PHASE.len()
-                + digits(angle >> twos)
-                + words::OVER.len()
-                + digits(32768 >> twos)
-                + words::WIRE.len()
-                + digits(wire as u16)
-                + words::CLOSING.len()
+            phase_length(wire, angle >> twos, 32768 >> twos)
         }
     }
 }

@@ -9,7 +9,7 @@ use Rattle.circuit.specs.File.{countOf, gatesOf}
 use Rattle.circuit.proofs.Callers.{GoodFile, good-file}
 use Rattle.listing.specs.Listing.{gateLines, listingOf, listingOfFile}
 use Rattle.listing.specs.Working.{longestLine}
-use Rattle.listing.proofs.Lengths.{head-short, wrap-short, listing-length}
+use Rattle.listing.proofs.Lengths.{head-long, head-short, wrap-short, listing-length}
 use Rattle.listing.proofs.Loops.{lines-fit}
 use borrow.Author.Needs.{needs}
 use Rattle.listing.proofs.fits.Statement.{statement}
@@ -38,7 +38,7 @@ whole c =
     let s = start c in
     let a = s .args in
     let gs = gatesOf (a .file .now) in
-    omega (arith, listing-length (a .wrapped) (a .wires) gs, ap (λ (w : ℕ). length (listingOf (a .wrapped) w gs)) (s .pre .2), c .before .head-length .ensures, c .wrap-length .ensures)
+    omega (arith, listing-length (a .wrapped) (a .wires) gs, head-long (a .wires), ap (λ (w : ℕ). length (listingOf (a .wrapped) w gs)) (s .pre .2), c .before .head-length .ensures, c .wrap-length .ensures)
 
 -- all lengths are small
 record Small (c : tie.After-wrap-length) : Type 0 where
@@ -54,7 +54,7 @@ small c =
     let g = good s in
     let few : a .wires ≤ 10 = omega (arith, g .few, s .pre .2) in
     record {
-      head = omega (arith, head-short (a .wires) few, c .before .head-length .ensures);
+      head = omega (arith, head-short (a .wires) few, head-long (a .wires), c .before .head-length .ensures);
       wrap = omega (arith, wrap-short (a .wrapped) (a .wires) few, c .wrap-length .ensures);
       rest = lines-fit (a .file .now) (λ j. known c .shared-slice-known .given j .fits) g;
       gates = g .count;
