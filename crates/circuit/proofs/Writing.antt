@@ -24,10 +24,6 @@ put-nothing bs at out h = rw (lt-leb (at + length bs) (length out) h)
 pub put-sets : (bs : List ℕ) (at : ℕ) (out : List ℕ) → at + length bs ≤ length out → putAt bs at out ≡ sets out at bs
 put-sets bs at out h = put-fits bs at out h ∙ sym (sets-eq bs out at h)
 
--- no bytes change nothing
-pub put-none : (at : ℕ) (out : List ℕ) → at ≤ length out → putAt [] at out ≡ out
-put-none at out h = put-sets [] at out (omega arith)
-
 pub length-put : (bs : List ℕ) (at : ℕ) (out : List ℕ) → at + length bs ≤ length out → length (putAt bs at out) ≡ length out
 length-put bs at out h = ap length (put-sets bs at out h) ∙ length-sets out at bs
 
@@ -43,19 +39,6 @@ put-put bs cs at out h =
     put-sets cs (at + length bs) (putAt bs at out) (omega arith)
     ∙ ap (λ (o : List ℕ). sets o (at + length bs) cs) (put-sets bs at out (omega arith))
     ∙ sym (sets-append bs cs out at) ∙ sym (put-sets (bs ++ cs) at out h)
-
-front-length : (bs : List ℕ) (at : ℕ) (out : List ℕ) → at + length bs ≤ length out → length (take at out ++ bs) ≡ at + length bs
-front-length bs at out h = length-append (take at out) bs ∙ ap (_+ length bs) (length-take-le at out (omega arith))
-
--- up to the end of what was written: what stood before it, and then it
-pub take-put : (bs : List ℕ) (at : ℕ) (out : List ℕ) → at + length bs ≤ length out → take (at + length bs) (putAt bs at out) ≡ take at out ++ bs
-take-put bs at out h =
-    ap (take (at + length bs)) (put-fits bs at out h) ∙ take-at (take at out ++ bs) (drop (at + length bs) out) (at + length bs) (front-length bs at out h)
-
--- behind it nothing changed
-pub drop-put : (bs : List ℕ) (at : ℕ) (out : List ℕ) → at + length bs ≤ length out → drop (at + length bs) (putAt bs at out) ≡ drop (at + length bs) out
-drop-put bs at out h =
-    ap (drop (at + length bs)) (put-fits bs at out h) ∙ drop-at (take at out ++ bs) (drop (at + length bs) out) (at + length bs) (front-length bs at out h)
 
 -- four stores in a row
 pub four-stored : (out : List ℕ) (at a b c d : ℕ) → at + 4 ≤ length out

@@ -10,7 +10,6 @@ pub use decoder::decode;
 pub use gates::gate_at;
 pub use gates::good_gate;
 pub use reader::read;
-pub use writer::gate_bytes;
 pub use writer::put_gate;
 pub use writer::put_header;
 

@@ -23,7 +23,7 @@ fn put_four(out: &mut [u8], at: usize, a: u8, b: u8, c: u8, d: u8)
 }
 
 // A gate's four bytes.
-pub fn gate_bytes(gate: Gate) -> [u8; 4]
+fn gate_bytes(gate: Gate) -> [u8; 4]
     ensures { λ r. ⌜ r ≡ gateBytes gate ⌝ }
 {
     match gate {

@@ -37,14 +37,6 @@ unfoldable pub remains : (ℕ → ℕ) → List Gate → List ℕ → List Gate
 remains T [] ms = []
 remains T (g ∷ gs) ms = left (takes T (met g ms)) g ++ remains (after T (met g ms)) gs (masksAfter g ms)
 
-pub remains-none : (T : ℕ → ℕ) (ms : List ℕ) → remains T [] ms ≡ []
-unfolding remains
-remains-none T ms = refl
-
-pub remains-cons : (T : ℕ → ℕ) (g : Gate) (gs : List Gate) (ms : List ℕ) → remains T (g ∷ gs) ms ≡ left (takes T (met g ms)) g ++ remains (after T (met g ms)) gs (masksAfter g ms)
-unfolding remains
-remains-cons T g gs ms = refl
-
 pub same-function : {A : Type 0} (f g : ℕ → A) → ((m : ℕ) → f m ≡ g m) → f ≡ g
 same-function f g h = λ i m. h m i
 

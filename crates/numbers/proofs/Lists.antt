@@ -38,9 +38,6 @@ module _ {A : Type 0} where
   abbrev pub filled : ℕ → (ℕ → A) → List A → List A
   filled x f l = list x f ++ drop x l
 
-  pub length-filled : (x : ℕ) (f : ℕ → A) (l : List A) → x ≤ length l → length (filled x f l) ≡ length l
-  length-filled x f l h = length-append (list x f) (drop x l) ∙ ap₂ _+_ (length-list x f) (length-drop x l) ∙ omega arith
-
   -- one entry more
   fill-next : (x : ℕ) (f : ℕ → A) (l : List A) (d : A) → x < length l → set (filled x f l) x (f x) ≡ filled (suc x) f l
   fill-next x f l d h =

@@ -59,13 +59,6 @@ pub difference-adds : (a b : ℕ) → b < 65536 → difference a b + b ≈ a
 difference-adds a b h =
     ≈-add (≈-mod (a + 65536 - b)) (≈-refl {a = b}) ≈∙ ≈-of (let e : a + 65536 - b + b ≡ a + 1 * 65536 = omega arith in e) ≈∙ ≈-turns a 1
 
--- it is none exactly where they are the same
-pub difference-none : (a b : ℕ) → a < 65536 → b < 65536 → difference a b ≡ 0 → a ≡ b
-difference-none a b ha hb e = omega arith
-
-pub none-difference : (a b : ℕ) → a < 65536 → a ≡ b → difference a b ≡ 0
-none-difference a b ha e = omega arith
-
 -- ---- the angle of an integer
 
 pub wrap-below : (z : ℤ) → wrap z < 65536

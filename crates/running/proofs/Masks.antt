@@ -159,9 +159,6 @@ zeros n i = by (decLt i n)
     by (yes h) = getD-replicate n i 0 0 h
     by (no h) = List·getD-eq-default (replicate n 0) 0 {n = i} (omega (arith, length-replicate {A = ℕ} n 0))
 
-pub all-below : (w : ℕ) (gs : List Gate) → MasksBelow w (masksFrom gs (ownMasks w))
-all-below w gs = masks-below w gs (ownMasks w) (own-below w)
-
 -- masks that agree on the first w wires, as code does that keeps more of them than the circuit has
 pub record Alike (w : ℕ) (ms ns : List ℕ) : Type 0 where
   pub left : w ≤ length ms

@@ -14,22 +14,9 @@ use Rattle.circuit.specs.declared.Gate.the-variants.{Cnot, Phase}
 use Rattle.circuit.specs.Gates.{Sound, AllSound}
 use Rattle.running.specs.Run.{stepped, added, endFrom, totalFrom}
 
--- the recursion, where its definition is shut
-pub end-cons : (g : Gate) (gs : List Gate) (s : ℕ) → endFrom (g ∷ gs) s ≡ endFrom gs (stepped g s)
-unfolding endFrom
-end-cons g gs s = refl
-
-pub total-cons : (g : Gate) (gs : List Gate) (s : ℕ) → totalFrom (g ∷ gs) s ≡ added g s + totalFrom gs (stepped g s)
-unfolding totalFrom
-total-cons g gs s = refl
-
 pub end-none : (s : ℕ) → endFrom [] s ≡ s
 unfolding endFrom
 end-none s = refl
-
-pub total-none : (s : ℕ) → totalFrom [] s ≡ 0
-unfolding totalFrom
-total-none s = refl
 
 -- one circuit after another
 pub end-append : (xs ys : List Gate) (s : ℕ) → endFrom (xs ++ ys) s ≡ endFrom ys (endFrom xs s)
