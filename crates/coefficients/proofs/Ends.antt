@@ -60,7 +60,7 @@ module _ (w : ℕ) (gs : List Gate) (few : w ≤ mostWires) (sound : AllSound w 
   front-long = length-take-le w masks (omega (arith, length-masks gs (ownMasks mostWires)))
 
   -- bit j of the end of 2^i is bit i of wire j's mask
-  pub column-end : (i : ℕ) → i < w → column (take w masks) i ≡ endFrom gs (2 ^ i)
+  column-end : (i : ℕ) → i < w → column (take w masks) i ≡ endFrom gs (2 ^ i)
   column-end i k =
       ap (λ (n : ℕ). sum n (λ j. bit (entry (take w masks) j) i * 2 ^ j)) front-long
       ∙ sumOf-ext 0 _+_ w (λ j. bit (entry (take w masks) j) i * 2 ^ j) (λ j. bit (endFrom gs (2 ^ i)) j * 2 ^ j)

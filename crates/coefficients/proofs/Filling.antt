@@ -12,7 +12,7 @@ use Rattle.circuit.proofs.Writing.{put-fits, put-nothing}
 use Rattle.coefficients.specs.Working.{entry}
 
 -- at the front: the numbers, then what stood behind them
-pub front-put : (vs before : List ℕ) → length vs ≤ length before → putAt vs 0 before ≡ vs ++ drop (length vs) before
+front-put : (vs before : List ℕ) → length vs ≤ length before → putAt vs 0 before ≡ vs ++ drop (length vs) before
 front-put vs before h = put-fits vs 0 before (omega arith) ∙ ap (λ (n : ℕ). vs ++ drop n before) (zero-add (length vs))
 
 module _ (n : ℕ) (f : ℕ → ℕ) (before : List ℕ) where

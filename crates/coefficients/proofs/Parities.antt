@@ -14,10 +14,10 @@ use Rattle.numbers.proofs.Parity.{dot-below, dot-none, dot-step}
 use Rattle.numbers.proofs.Turns.{≈-of, ≈-add, ≈-refl, ≈-mul, _≈∙_}
 use Rattle.coefficients.specs.Working.{weightOf}
 
-pub ones-even : (t : ℕ) → ones (t * 2) ≡ ones t
+ones-even : (t : ℕ) → ones (t * 2) ≡ ones t
 ones-even t = ones-step (t * 2) ∙ ap₂ (λ (a b : ℕ). a + ones b) (let e : t * 2 % 2 ≡ 0 = omega arith in e) (let e : t * 2 / 2 ≡ t = omega arith in e) ∙ zero-add (ones t)
 
-pub ones-odd : (t : ℕ) → ones (t * 2 + 1) ≡ suc (ones t)
+ones-odd : (t : ℕ) → ones (t * 2 + 1) ≡ suc (ones t)
 ones-odd t =
     ones-step (t * 2 + 1) ∙ ap₂ (λ (a b : ℕ). a + ones b) (let e : (t * 2 + 1) % 2 ≡ 1 = omega arith in e) (let e : (t * 2 + 1) / 2 ≡ t = omega arith in e)
     ∙ one-add (ones t)

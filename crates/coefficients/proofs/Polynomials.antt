@@ -24,7 +24,7 @@ use Rattle.coefficients.specs.Working.{weightOf}
 use Rattle.coefficients.proofs.Parities.{parity}
 
 -- only the empty set has no wire
-pub ones-some : (n : ℕ) → 0 < n → 0 < ones n
+ones-some : (n : ℕ) → 0 < n → 0 < ones n
 ones-some = bin-ind (λ n. 0 < n → 0 < ones n) (λ h. absurd (omega arith)) step
   where
     step : (n : ℕ) → (0 < n / 2 → 0 < ones (n / 2)) → 0 < n → 0 < ones n
@@ -51,7 +51,7 @@ pub coefficient-below : (w : ℕ) (gs : List Gate) (s : ℕ) → coefficient w g
 coefficient-below w gs s = omega (arith, coefficient-weight w gs s)
 
 -- a total as a polynomial of the starting bits
-pub total-polynomial : (w : ℕ) (gs : List Gate) (x : ℕ) → AllSound w gs → x < 2 ^ w → totalFrom gs x ≈ sum (2 ^ w) (λ s. subset s x * coefficient w gs s)
+total-polynomial : (w : ℕ) (gs : List Gate) (x : ℕ) → AllSound w gs → x < 2 ^ w → totalFrom gs x ≈ sum (2 ^ w) (λ s. subset s x * coefficient w gs s)
 total-polynomial w gs x h k =
     ≈-of (total-parity w gs h x)
     ≈∙ sumMet-≈ w (λ m a. a * dot m x) (λ m a. sum (2 ^ w) (λ s. subset s x * weightOf (ones s) * (subset s m * a))) one gs (ownMasks w) (own-below w)

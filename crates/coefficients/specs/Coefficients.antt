@@ -25,9 +25,10 @@ coefficients w gs = list (2 ^ w) (coefficient w gs)
 abbrev pub singleEnds : ℕ → List Gate → List ℕ
 singleEnds w gs = list w (λ i. endFrom gs (2 ^ i))
 
--- the same of the ideal on n + 1 wires, which "ends as it starts"
+-- the ideal's coefficients on n + 1 wires, set by set
 abbrev pub idealCoefficients : ℕ → (ℕ → ℕ) → List ℕ
 idealCoefficients n f = list (2 ^ (n + 1)) (idealCoefficient n f)
 
+-- "ends as it starts": the ends of the ideal's single-wire starts
 abbrev pub idealEnds : ℕ → List ℕ
 idealEnds n = list (n + 1) (λ i. 2 ^ i)

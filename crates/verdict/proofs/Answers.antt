@@ -10,10 +10,8 @@ use Rattle.refusal.specs.Checks.{Check, check, other, Outcome, passed, refused,
 use Rattle.refusal.specs.Contract.{values, Meets}
 use Rattle.refusal.proofs.Outcomes.{reaches, then-passed}
 use Rattle.refusal.proofs.Passed.{passed-fail}
-use Rattle.refusal.proofs.Contracts.{Distinct, same-refusal}
 use Rattle.refusal.proofs.Rooms.{earlier-refused, room-refused, room-enough}
 use Rattle.verdict.specs.declared.Verdict.{Verdict}
-use Rattle.verdict.specs.declared.Verdict.the-variants.{Same, Different}
 use Rattle.verdict.specs.declared.Compared.{Compared}
 use Rattle.verdict.specs.declared.Compared.the-variants.{Found, Refused}
 use Rattle.verdict.specs.Judging.{verdictValues, comparedSays, workChecks}

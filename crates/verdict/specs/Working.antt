@@ -26,15 +26,17 @@ pub record Summary : Type 0 where
   pub coefficients : ℕ → ℕ
   pub ends : ℕ → ℕ
 
+-- the summary that two slices hold
 abbrev pub summary : List ℕ → List ℕ → Summary
 summary row ends = record { coefficients = entry row; ends = entry ends }
 
--- two slices hold a summary on w wires
+-- they are long enough for one on w wires
 pub record Holds (w : ℕ) (row ends : List ℕ) : Type 0 where
   pub few : w ≤ mostWires
   pub sets : 2 ^ w ≤ length row
   pub wires : w ≤ length ends
 
+-- where two rows of numbers differ
 abbrev pub unlike : (ℕ → ℕ) → (ℕ → ℕ) → ℕ → Bool
 unlike f g i = not (eqb (f i) (g i))
 
@@ -50,6 +52,7 @@ endOf w ends state = sumOf 0 bitXor w (λ i. bit state i * ends i)
 abbrev pub judgedAt : ℕ → Summary → Summary → ℕ → Verdict
 judgedAt w a b p = cond (ltb p (2 ^ w)) (Different p (endOf w (a .ends) p) (endOf w (b .ends) p) (difference (a .coefficients p) (b .coefficients p))) Same
 
+-- the verdict on two summaries
 unfoldable pub judged : ℕ → Summary → Summary → Verdict
 judged w a b = judgedAt w a b (lowestPlace w a b)
 
