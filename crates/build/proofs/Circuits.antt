@@ -14,7 +14,7 @@ use Rattle.numbers.proofs.Turns.{difference-below, wrap-below}
 use Rattle.spectrum.specs.Spectrum.{coefficient, theta}
 use Rattle.circuit.specs.declared.Gate.{Gate}
 use Rattle.circuit.specs.declared.Gate.the-variants.{Phase}
-use Rattle.circuit.specs.Gates.{AllSound}
+use Rattle.circuit.specs.Working.{AllSound}
 use Rattle.circuit.specs.File.{fileOf}
 use Rattle.running.specs.Masks.{ownMasks, masksFrom, sumMet}
 use Rattle.circuit.proofs.Decoding.{sound-cons, sound-append}

@@ -8,7 +8,8 @@ use lib.Pow.{pow-pos, pow-add}
 use lib.IntN.{ℤ, pos, negℤ, _*ℤ_}
 use Rattle.numbers.specs.Bits.{dot}
 use Rattle.numbers.specs.Sums.{sum, sumℤ}
-use Rattle.numbers.specs.Turn.{_≈_, flip}
+use Rattle.numbers.specs.Working.{_≈_}
+use Rattle.numbers.specs.Turn.{flip}
 use Rattle.numbers.proofs.Sums.{ℕ-adds, sumOf-plus}
 use Rattle.numbers.proofs.Lists.{getD-list}
 use Rattle.numbers.proofs.Turns.{_≈∙_, ≈-of, ≈-sym, ≈-add, ≈-refl, ≈-cancel, ≈-scale, ≈-turns, difference-adds}

@@ -9,7 +9,8 @@ use lib.Pow.{pow-mono}
 use Rattle.numbers.proofs.Powers.{power-fits}
 use Rattle.circuit.specs.declared.Gate.{Gate}
 use Rattle.circuit.specs.declared.Gate.the-variants.{Cnot, Phase}
-use Rattle.circuit.specs.Bytes.{putAt, Wrote}
+use Rattle.circuit.specs.Working.{Wrote}
+use Rattle.circuit.specs.Bytes.{putAt}
 use Rattle.circuit.specs.Gates.{gateBytes, bytesOf}
 use Rattle.circuit.proofs.Decoding.{bytes-one, bytes-append, length-bytes}
 use Rattle.circuit.proofs.Parts.{Left}

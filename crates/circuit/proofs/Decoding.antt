@@ -16,8 +16,8 @@ use Rattle.circuit.specs.declared.Gate.the-variants.{Cnot, Phase}
 use Rattle.circuit.specs.declared.Placed.{Placed}
 use Rattle.circuit.specs.declared.Decoded.the-variants.{Good, Bad}
 use Rattle.circuit.specs.Bytes.{Bytes}
-use Rattle.circuit.specs.Gates.{good, decoded, decodedAt, firstBad, gatesFrom, gateBytes, bytesOf, Sound, AllSound}
-use Rattle.circuit.specs.Working.{bad, gateSaid}
+use Rattle.circuit.specs.Gates.{good, decoded, decodedAt, firstBad, gatesFrom, gateBytes, bytesOf}
+use Rattle.circuit.specs.Working.{bad, gateSaid, Sound, AllSound}
 
 pub bytes-drop : (n : ℕ) (bs : List ℕ) → Bytes bs → Bytes (drop n bs)
 bytes-drop n bs h i = rw (getD-drop n bs i 0) (h (n + i))

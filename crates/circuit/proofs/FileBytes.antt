@@ -5,7 +5,8 @@ use mathlib.Core.List.{List, [], _∷_, _++_}
 use lib.ListN.{length}
 use Rattle.circuit.specs.declared.Gate.{Gate}
 use Rattle.circuit.specs.declared.Gate.the-variants.{Cnot, Phase}
-use Rattle.circuit.specs.Gates.{gateBytes, bytesOf, Sound, AllSound}
+use Rattle.circuit.specs.Working.{Sound, AllSound}
+use Rattle.circuit.specs.Gates.{gateBytes, bytesOf}
 use Rattle.circuit.specs.File.{headerBytes, fileOf}
 use Rattle.circuit.specs.Bytes.{Bytes}
 

@@ -14,8 +14,8 @@ use Rattle.circuit.specs.declared.Gate.{Gate}
 use Rattle.circuit.specs.declared.Gate.the-variants.{Phase}
 use Rattle.circuit.specs.declared.Decoded.{Decoded}
 use Rattle.circuit.specs.declared.Decoded.the-variants.{Bad}
-use Rattle.circuit.specs.Gates.{good, decoded, decodedAt, gateBytes, bytesOf, gatesFrom, firstBad, Sound, AllSound}
-use Rattle.circuit.specs.Working.{bad, gateSaid, fourAt, saidAt}
+use Rattle.circuit.specs.Gates.{good, decoded, decodedAt, gateBytes, bytesOf, gatesFrom, firstBad}
+use Rattle.circuit.specs.Working.{bad, gateSaid, fourAt, saidAt, Sound, AllSound}
 use Rattle.circuit.specs.File.{wiresOf, countOf, gatesOf, gateAt, fileChecks, fileOf}
 use Rattle.circuit.specs.Bytes.{Bytes}
 use Rattle.circuit.proofs.Callers.{GoodFile, file-passes}

@@ -5,7 +5,8 @@ use native.Mathlib.Omega.{arith}
 use mathlib.Core.Path.{_≡_, refl, sym, ap, ap₂, subst, _∙_}
 use mathlib.Core.List.{List, [], _∷_, _++_}
 use lib.ListN.{length, set, length-append}
-use Rattle.circuit.specs.Bytes.{putAt, Wrote}
+use Rattle.circuit.specs.Working.{Wrote}
+use Rattle.circuit.specs.Bytes.{putAt}
 use Rattle.circuit.proofs.Writing.{put-put, put-sets, length-put}
 
 -- `rest` is left of a text that goes to `start`, and it goes to `at`

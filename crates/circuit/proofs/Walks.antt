@@ -6,10 +6,9 @@ use mathlib.Core.Path.{_≡_, refl, sym, ap, subst, _∙_}
 use mathlib.Core.List.{List, _∷_, _++_}
 use lib.ListN.{length, drop}
 use Rattle.circuit.specs.declared.Gate.{Gate}
-use Rattle.circuit.specs.Bytes.{Bytes, Wrote}
-use Rattle.circuit.specs.Gates.{Sound}
+use Rattle.circuit.specs.Bytes.{Bytes}
 use Rattle.circuit.specs.File.{wiresOf, countOf, gatesOf}
-use Rattle.circuit.specs.Working.{saidAt, walked, written}
+use Rattle.circuit.specs.Working.{saidAt, walked, written, Sound, Wrote}
 use Rattle.circuit.proofs.Decoding.{sound-wider}
 use Rattle.circuit.proofs.Callers.{GoodFile}
 use Rattle.circuit.proofs.Files.{gate-said, gates-end}

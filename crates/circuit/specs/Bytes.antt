@@ -1,6 +1,5 @@
 -- Slices of bytes: what each of them holds, and bytes written at a place.
 use Prim.Native.Nat.{ℕ, _+_, _<_}
-use mathlib.Core.Path.{_≡_}
 use mathlib.Core.Bool.{cond}
 use mathlib.Core.List.{List, _++_}
 use lib.Dec.{leb}
@@ -13,8 +12,3 @@ Bytes bs = (i : ℕ) → getD bs i 0 < 256
 -- entries written at a place of a slice: all of them where they fit ("Success writes only the result"), else none
 abbrev pub putAt : List ℕ → ℕ → List ℕ → List ℕ
 putAt bs at out = cond (leb (at + length bs) (length out)) (take at out ++ bs ++ drop (at + length bs) out) out
-
--- entries written at a place, and the place behind them
-pub record Wrote (text : List ℕ) (at : ℕ) (before : List ℕ) (behind : ℕ) (after : List ℕ) : Type 0 where
-  pub ends : behind ≡ at + length text
-  pub written : after ≡ putAt text at before

@@ -1,6 +1,5 @@
 -- 01, "Circuit file": a gate's four bytes, which of them are bad, and the gates of a row of bytes.
-use Prim.Native.Nat.{ℕ, zero, suc, _+_, _*_, _/_, _%_, _<_}
-use mathlib.Core.Path.{_≡_}
+use Prim.Native.Nat.{ℕ, zero, suc, _+_, _*_, _/_, _%_}
 use mathlib.Core.Bool.{cond}
 use mathlib.Core.List.{List, [], _∷_, _++_}
 use lib.Dec.{ltb, eqb}
@@ -56,12 +55,3 @@ gateBytes (Phase i a) = 2 ∷ i ∷ a / 256 ∷ a % 256 ∷ []
 unfoldable pub bytesOf : List Gate → List ℕ
 bytesOf [] = []
 bytesOf (g ∷ gs) = gateBytes g ++ bytesOf gs
-
--- a gate that the decoder can answer on w wires
-abbrev pub Sound : ℕ → Gate → Type 0
-Sound w (Cnot c t) = (c < w) × (t < w) × (c ≡ t → ⊥)
-Sound w (Phase i a) = (i < w) × (a < 65536)
-
-unfoldable pub AllSound : ℕ → List Gate → Type 0
-AllSound w [] = Unit {0}
-AllSound w (g ∷ gs) = Sound w g × AllSound w gs

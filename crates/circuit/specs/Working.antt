@@ -1,9 +1,11 @@
--- A gate's bytes as the code takes them: first whether they are bad, then the gate that they say; and walks over gates.
-use Prim.Native.Nat.{ℕ, _+_, _*_}
+-- A gate's bytes as the code takes them, walks over gates, and what is written at a place.
+use Prim.Native.Nat.{ℕ, _+_, _*_, _<_}
+use mathlib.Core.Path.{_≡_}
 use mathlib.Core.Bool.{Bool, not, _||_, _&&_, cond}
 use mathlib.Core.List.{List, [], _∷_, _++_}
 use lib.Dec.{leb, eqb}
 use lib.ListN.{length, getD}
+use Rattle.circuit.specs.Bytes.{putAt}
 use Rattle.circuit.specs.declared.Gate.{Gate}
 use Rattle.circuit.specs.declared.Gate.the-variants.{Cnot, Phase}
 
@@ -36,3 +38,17 @@ walked step (g ∷ gs) s = walked step gs (step g s)
 unfoldable pub written : {S : Type 0} → (Gate → S → S) → (Gate → S → List ℕ) → List Gate → S → List ℕ
 written step put [] s = []
 written step put (g ∷ gs) s = put g s ++ written step put gs (step g s)
+
+-- a gate that the decoder can answer on w wires
+abbrev pub Sound : ℕ → Gate → Type 0
+Sound w (Cnot c t) = (c < w) × (t < w) × (c ≡ t → ⊥)
+Sound w (Phase i a) = (i < w) × (a < 65536)
+
+unfoldable pub AllSound : ℕ → List Gate → Type 0
+AllSound w [] = Unit {0}
+AllSound w (g ∷ gs) = Sound w g × AllSound w gs
+
+-- entries written at a place, and the place behind them
+pub record Wrote (text : List ℕ) (at : ℕ) (before : List ℕ) (behind : ℕ) (after : List ℕ) : Type 0 where
+  pub ends : behind ≡ at + length text
+  pub written : after ≡ putAt text at before

@@ -16,7 +16,7 @@ use Rattle.numbers.proofs.Digits.{digits, digits-below}
 use Rattle.numbers.proofs.Parity.{dot-comm}
 use Rattle.numbers.proofs.Wires.{dot-power}
 use Rattle.circuit.specs.declared.Gate.{Gate}
-use Rattle.circuit.specs.Gates.{AllSound}
+use Rattle.circuit.specs.Working.{AllSound}
 use Rattle.circuit.proofs.Decoding.{all-wider}
 use Rattle.running.specs.Run.{endFrom}
 use Rattle.running.specs.Masks.{mostWires, mostMasks, ownMasks, masksFrom}

@@ -6,7 +6,7 @@ use mathlib.Core.Path.{_≡_, sym, ap, ap₂, _∙_}
 use lib.Pow.{pow-pos, high}
 use Rattle.numbers.specs.Bits.{bit, equal, subset}
 use Rattle.numbers.specs.Sums.{sum}
-use Rattle.numbers.specs.Turn.{_≈_}
+use Rattle.numbers.specs.Working.{_≈_}
 use Rattle.numbers.proofs.Sums.{ℕ-adds, sumOf-ext, sumOf-swap}
 use Rattle.numbers.proofs.Subsets.{subset-even, subset-odd, subset-in-even, subset-in-odd, subset-none, subset-self, subset-above, subset-block, subset-low-high, equal-low, sum-scale, sum-pick, sum-zero, sum-bits, sum-halves}
 use Rattle.numbers.proofs.Angles.{≈-sum}

@@ -7,7 +7,7 @@ use mathlib.Core.Path.{_≡_, refl, sym, ap, ap₂, _∙_}
 use lib.Count.{ones, onesIn, ones-step}
 use Rattle.numbers.specs.Bits.{dot, subset}
 use Rattle.numbers.specs.Sums.{sum}
-use Rattle.numbers.specs.Turn.{_≈_}
+use Rattle.numbers.specs.Working.{_≈_}
 use Rattle.numbers.proofs.Sums.{ℕ-adds, sumOf-ext, sumOf-plus}
 use Rattle.numbers.proofs.Subsets.{subset-even, subset-odd, subset-none, sum-scale, sum-bits}
 use Rattle.numbers.proofs.Parity.{dot-below, dot-none, dot-step}

@@ -8,13 +8,13 @@ use lib.Arith.{bin-ind}
 use lib.Count.{ones, onesIn, ones-step}
 use Rattle.numbers.specs.Bits.{dot, subset}
 use Rattle.numbers.specs.Sums.{sum}
-use Rattle.numbers.specs.Turn.{_≈_}
+use Rattle.numbers.specs.Working.{_≈_}
 use Rattle.numbers.proofs.Sums.{sumOf-ext}
 use Rattle.numbers.proofs.Subsets.{sum-scale}
 use Rattle.numbers.proofs.Angles.{≈-sum}
 use Rattle.numbers.proofs.Turns.{≈-of, ≈-mod, ≈-sym, ≈-mul, ≈-refl, _≈∙_}
 use Rattle.circuit.specs.declared.Gate.{Gate}
-use Rattle.circuit.specs.Gates.{AllSound}
+use Rattle.circuit.specs.Working.{AllSound}
 use Rattle.running.specs.Run.{totalFrom, phaseFrom}
 use Rattle.running.specs.Masks.{ownMasks, sumMet}
 use Rattle.running.proofs.Masks.{own-below, total-parity}

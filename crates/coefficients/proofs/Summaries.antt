@@ -10,7 +10,7 @@ use lib.ListN.{length, take}
 use lib.Seq.{length-take-le}
 use Rattle.numbers.specs.Bits.{equal, subset}
 use Rattle.numbers.specs.Sums.{list}
-use Rattle.numbers.specs.Turn.{_≈_}
+use Rattle.numbers.specs.Working.{_≈_}
 use Rattle.numbers.proofs.Lists.{length-list, getD-list, list-ext}
 use Rattle.numbers.proofs.Powers.{small-power}
 use Rattle.numbers.proofs.Angles.{≈-sum}

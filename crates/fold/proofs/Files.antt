@@ -6,13 +6,14 @@ use mathlib.Core.List.{List}
 use lib.ListN.{length}
 use Rattle.refusal.specs.Checks.{passed, outcome}
 use Rattle.circuit.specs.declared.Gate.{Gate}
-use Rattle.circuit.specs.Gates.{AllSound}
+use Rattle.circuit.specs.Working.{AllSound}
 use Rattle.circuit.specs.File.{wiresOf, gatesOf, fileChecks, fileOf}
 use Rattle.running.specs.Run.{endFrom, phaseFrom}
 use Rattle.circuit.specs.Bytes.{Bytes}
 use Rattle.circuit.proofs.Callers.{good-file}
 use Rattle.circuit.proofs.Files.{file-sound, length-gates, wires-written, list-written, written-passes}
-use Rattle.fold.specs.Fold.{folded, foldedFile, cnotsOf}
+use Rattle.fold.specs.Working.{cnotsOf}
+use Rattle.fold.specs.Fold.{folded, foldedFile}
 use Rattle.fold.proofs.Folding.{folded-sound, folded-shorter, folded-twice, same-cnots, same-end, same-phase}
 
 pub same-wires : (f : List ℕ) → wiresOf (foldedFile f) ≡ wiresOf f

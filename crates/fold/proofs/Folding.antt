@@ -6,18 +6,19 @@ use mathlib.Core.Path.{_≡_, refl, sym, ap, ap₂, _∙_}
 use mathlib.Core.List.{List, [], _∷_}
 use lib.ListN.{length}
 use Rattle.numbers.specs.Bits.{equal, dot}
-use Rattle.numbers.specs.Turn.{_≈_}
+use Rattle.numbers.specs.Working.{_≈_}
 use Rattle.numbers.proofs.Turns.{≈-of, ≈-mod, ≈-scale, _≈∙_}
 use Rattle.numbers.proofs.Angles.{≈-sum}
 use Rattle.circuit.specs.declared.Gate.{Gate}
 use Rattle.circuit.specs.declared.Gate.the-variants.{Cnot, Phase}
-use Rattle.circuit.specs.Gates.{AllSound}
+use Rattle.circuit.specs.Working.{AllSound}
 use Rattle.running.specs.Run.{stepped, endFrom, totalFrom, phaseFrom, cnots}
 use Rattle.running.specs.Masks.{ownMasks, masksAfter, masksFrom, sumMet}
 use Rattle.running.proofs.Masks.{own-below, total-parity}
 use Rattle.running.proofs.Groups.{collect, sum-vanishes}
 use Rattle.running.specs.Groups.{groupTotal}
-use Rattle.fold.specs.Fold.{folded, cnotsOf}
+use Rattle.fold.specs.Working.{cnotsOf}
+use Rattle.fold.specs.Fold.{folded}
 use Rattle.fold.proofs.Remaining.{remains, same-function, ifMet, cnots-remains, sound-remains, length-remains, remains-twice, group-remains}
 use Rattle.fold.proofs.Positions.{folded-remains}
 

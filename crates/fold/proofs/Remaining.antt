@@ -13,12 +13,12 @@ use Rattle.numbers.specs.Bits.{equal, indicator}
 use Rattle.numbers.proofs.Parity.{equal-yes, equal-no}
 use Rattle.circuit.specs.declared.Gate.{Gate}
 use Rattle.circuit.specs.declared.Gate.the-variants.{Cnot, Phase}
-use Rattle.circuit.specs.Gates.{AllSound}
+use Rattle.circuit.specs.Working.{AllSound}
 use Rattle.running.specs.Run.{cnots}
 use Rattle.running.specs.Masks.{Met, Mixed, Mask, masksAfter, met, sumMet}
 use Rattle.running.proofs.Masks.{Alike, met-alike, alike-after}
-use Rattle.fold.specs.Fold.{kept, cnotsOf}
-use Rattle.fold.specs.Working.{staying, left}
+use Rattle.fold.specs.Fold.{kept}
+use Rattle.fold.specs.Working.{staying, left, cnotsOf}
 
 -- the totals once mask m's is taken
 abbrev pub cleared : (ℕ → ℕ) → ℕ → ℕ → ℕ

@@ -8,10 +8,10 @@ use lib.ListN.{length, getD, set, List·getD-eq-default}
 use lib.Seq.{getD-set-same, getD-set-other, set-out}
 use Rattle.circuit.specs.declared.Gate.{Gate}
 use Rattle.circuit.specs.declared.Gate.the-variants.{Cnot, Phase}
-use Rattle.circuit.specs.Bytes.{Bytes, putAt, Wrote}
+use Rattle.circuit.specs.Bytes.{Bytes, putAt}
 use Rattle.circuit.specs.Gates.{gateBytes, bytesOf}
 use Rattle.circuit.specs.File.{wiresOf, gatesOf}
-use Rattle.circuit.specs.Working.{written}
+use Rattle.circuit.specs.Working.{written, Wrote}
 use Rattle.circuit.proofs.Decoding.{bytes-one, bytes-append, length-bytes}
 use Rattle.circuit.proofs.Callers.{GoodFile}
 use Rattle.circuit.proofs.Files.{file-sound}

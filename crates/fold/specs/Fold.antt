@@ -40,12 +40,6 @@ folded w gs = foldedFrom w gs 0 gs
 abbrev pub foldedFile : List ℕ → List ℕ
 foldedFile f = fileOf (wiresOf f) (folded (wiresOf f) (gatesOf f))
 
--- "CNOTs stay in order": the CNOTs of a list
-unfoldable pub cnotsOf : List Gate → List Gate
-cnotsOf [] = []
-cnotsOf (Cnot c t ∷ gs) = Cnot c t ∷ cnotsOf gs
-cnotsOf (Phase i a ∷ gs) = cnotsOf gs
-
 -- rows 4 to 10, then 13 "output slice shorter than this call's result"
 abbrev pub foldChecks : List ℕ → ℕ → List Check
 foldChecks f room = fileChecks 0 f ++ roomCheck room (length (foldedFile f))

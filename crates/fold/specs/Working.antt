@@ -52,3 +52,9 @@ foldStep g s = (masksAfter g (s .0), takenFrom (met g (s .0)) (s .1))
 
 abbrev pub foldPut : Gate → List ℕ × List ℕ → List ℕ
 foldPut g s = bytesOf (left (found (met g (s .0)) (s .1)) g)
+
+-- "CNOTs stay in order": the CNOTs of a list
+unfoldable pub cnotsOf : List Gate → List Gate
+cnotsOf [] = []
+cnotsOf (Cnot c t ∷ gs) = Cnot c t ∷ cnotsOf gs
+cnotsOf (Phase i a ∷ gs) = cnotsOf gs

@@ -13,7 +13,7 @@ use Rattle.refusal.proofs.Rooms.{earlier-refused, room-refused, room-enough}
 use Rattle.circuit.specs.File.{fileChecks}
 use Rattle.circuit.proofs.Writing.{put-fits}
 use Rattle.listing.specs.declared.Listed.the-variants.{Length, Refused}
-use Rattle.circuit.specs.Bytes.{Wrote}
+use Rattle.circuit.specs.Working.{Wrote}
 use Rattle.listing.specs.Listing.{listingOfFile, listedSays, Lists}
 
 module _ (b : Bool) (f before : List ℕ) where

@@ -8,7 +8,7 @@ use mathlib.Core.List.{List, [], _∷_, _++_}
 use lib.ListN.{length, length-append}
 use Rattle.circuit.specs.declared.Gate.{Gate}
 use Rattle.circuit.specs.declared.Gate.the-variants.{Cnot, Phase}
-use Rattle.circuit.specs.Gates.{Sound, AllSound}
+use Rattle.circuit.specs.Working.{Sound, AllSound}
 use Rattle.circuit.proofs.Decoding.{sound-wider}
 use Rattle.listing.specs.Text.{decimal, numbered}
 use Rattle.listing.specs.Words.{words}

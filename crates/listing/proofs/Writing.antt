@@ -7,7 +7,7 @@ use mathlib.Core.Path.{_≡_, refl, subst}
 use mathlib.Core.List.{List, [], _∷_, _++_}
 use lib.ListN.{length, getD, drop, set, length-drop, drop-of-length-le}
 use lib.Seq.{drop-cons}
-use Rattle.circuit.specs.Bytes.{Wrote}
+use Rattle.circuit.specs.Working.{Wrote}
 use Rattle.circuit.proofs.Parts.{Left, all-left, less-left, none-left, wrote-one}
 
 pub word-starts : (text : List ℕ) (at : ℕ) (out : List ℕ) → at + length text ≤ length out → Left text at out (drop 0 text) (at + 0) out

@@ -12,7 +12,7 @@ ghost use lib.Dec.{leb};
 ghost use lib.ListN.{length};
 ghost use Rattle.refusal.specs.Checks.{outcome, passed};
 ghost use Rattle.circuit.specs.File.{wiresOf, countOf, gatesOf, fileChecks};
-ghost use Rattle.circuit.specs.Bytes.{Wrote};
+ghost use Rattle.circuit.specs.Working.{Wrote};
 ghost use Rattle.listing.specs.Listing.{gateLines, listingOfFile, Lists};
 ghost use Rattle.listing.specs.Working.{longestLine};
 

@@ -8,7 +8,7 @@ use circuit::Gate;
 ghost use mathlib.Core.Path.{_≡_};
 ghost use Prim.Native.Nat.{_+_, _/_, _^_, _≤_};
 ghost use lib.ListN.{length};
-ghost use Rattle.circuit.specs.Bytes.{Wrote};
+ghost use Rattle.circuit.specs.Working.{Wrote};
 ghost use Rattle.listing.specs.Fractions.{over, fractionOf};
 ghost use Rattle.listing.specs.Listing.{headLines, wrapLine, cnotLine, phaseLine, gateLine};
 ghost use Rattle.listing.specs.Working.{headLength, cnotLength, phaseLength};

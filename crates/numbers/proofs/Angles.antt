@@ -2,7 +2,7 @@
 use Prim.Native.Nat.{ℕ, zero, suc, _+_, _<_}
 use native.Mathlib.Omega.{arith}
 use Rattle.numbers.specs.Sums.{sum}
-use Rattle.numbers.specs.Turn.{_≈_}
+use Rattle.numbers.specs.Working.{_≈_}
 use Rattle.numbers.proofs.Sums.{ℕ-adds, sumOf-none}
 use Rattle.numbers.proofs.Turns.{≈-refl, ≈-add, ≈-of, _≈∙_}
 

@@ -7,7 +7,8 @@ use mathlib.Core.Bool.{Bool, true, false, cond}
 use borrow.Author.Tests.{ltb-true, ltb-false}
 use lib.Dec.{ltb}
 use lib.IntN.{ℤ, pos, negsuc, negℤ, subℕ, _+ℤ_, _*ℤ_}
-use Rattle.numbers.specs.Turn.{_≈_, difference, wrap}
+use Rattle.numbers.specs.Working.{_≈_}
+use Rattle.numbers.specs.Turn.{difference, wrap}
 
 pub ≈-of : {a b : ℕ} → a ≡ b → a ≈ b
 ≈-of p = record { alike = ap (_% 65536) p }

@@ -2,3 +2,4 @@ pub mod Bits
 pub mod Sums
 pub mod Turn
 pub mod Search
+pub mod Working

@@ -1,12 +1,6 @@
 -- 01, "Numbers and conventions": "Sums of angles wrap at 65,536, a full turn."
 use Prim.Native.Nat.{ℕ, zero, suc, _+_, _-_, _%_}
-use mathlib.Core.Path.{_≡_}
 use lib.IntN.{ℤ, pos, negsuc, negℤ}
-
--- the same angle
-infix 50 _≈_
-pub record _≈_ (a b : ℕ) : Type 0 where
-  pub alike : a % 65536 ≡ b % 65536
 
 -- "the first .. minus the second, wrapped"
 abbrev pub difference : ℕ → ℕ → ℕ

@@ -11,7 +11,7 @@ use Rattle.refusal.specs.Checks.{passed, refused, outcome}
 use Rattle.refusal.proofs.Contracts.{meets-values, meets-refusal}
 use Rattle.table.specs.Table.{tableChecks, valueAt}
 use Rattle.table.proofs.Callers.{good-variables}
-use Rattle.circuit.specs.Gates.{AllSound}
+use Rattle.circuit.specs.Working.{AllSound}
 use Rattle.circuit.specs.File.{wiresOf, gatesOf}
 use Rattle.circuit.proofs.Files.{list-written, wires-written, length-file}
 use Rattle.build.specs.Construction.{builtFile, construction}

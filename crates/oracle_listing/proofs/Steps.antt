@@ -31,7 +31,8 @@ use Rattle.fold.proofs.Callers.{fold-answers, fold-refuses}
 use Rattle.listing.specs.declared.Listed.{Listed}
 use Rattle.listing.specs.declared.Listed.the-variants.{Refused}
 use Rattle.listing.specs.Listing.{listedSays, Lists}
-use Rattle.oracle_listing.specs.Oracle.{variablesOf, tableOf, foldedListing, oracleText, ListsFolded, ListsOracle}
+use Rattle.oracle_listing.specs.Working.{ListsFolded}
+use Rattle.oracle_listing.specs.Oracle.{variablesOf, tableOf, foldedListing, oracleText, ListsOracle}
 
 -- a file stands at the front of a slice
 pub record Ready (cs : List Check) (file slice : List ℕ) (l : ℕ) : Type 0 where

@@ -6,7 +6,6 @@ use lib.ListN.{length, getD, drop}
 use Rattle.refusal.specs.Checks.{Check, outcome, roomCheck}
 use Rattle.refusal.specs.Contract.{Meets}
 use Rattle.table.specs.Table.{tableChecks}
-use Rattle.circuit.specs.File.{fileChecks}
 use Rattle.build.specs.Construction.{builtFile}
 use Rattle.fold.specs.Fold.{foldedFile}
 use Rattle.listing.specs.declared.Listed.{Listed}
@@ -23,12 +22,7 @@ tableOf input = drop 1 input
 abbrev pub foldedListing : List ℕ → List ℕ
 foldedListing f = listingOfFile true (foldedFile f)
 
--- the contract of listing a file's folding: rows 4 to 10, then 13 where out is shorter than the text
-abbrev pub ListsFolded : List ℕ → List ℕ → Listed → List ℕ → Type 0
-ListsFolded f out answer after =
-    Meets listedSays (outcome (fileChecks 0 f ++ roomCheck (length out) (length (foldedListing f)))) (length (foldedListing f) ∷ []) (foldedListing f) out answer after
-
--- the same listing of the circuit that is built
+-- that of the circuit that is built
 abbrev pub oracleText : ℕ → List ℕ → List ℕ
 oracleText n t = foldedListing (builtFile n t)
 

@@ -4,7 +4,8 @@ use fold::Folded;
 use listing::Listed;
 ghost use mathlib.Core.Path.{_≡_};
 ghost use lib.ListN.{length};
-ghost use Rattle.oracle_listing.specs.Oracle.{variablesOf, tableOf, ListsFolded, ListsOracle};
+ghost use Rattle.oracle_listing.specs.Working.{ListsFolded};
+ghost use Rattle.oracle_listing.specs.Oracle.{variablesOf, tableOf, ListsOracle};
 
 // Room for the largest built file, of 8 variables.
 fn built_room() -> [u8; 4096]

@@ -7,7 +7,7 @@ use lib.ListN.{length}
 use Rattle.refusal.specs.Checks.{passed, outcome}
 use Rattle.table.specs.Table.{valueAt}
 use Rattle.circuit.specs.declared.Gate.{Gate}
-use Rattle.circuit.specs.Gates.{AllSound}
+use Rattle.circuit.specs.Working.{AllSound}
 use Rattle.circuit.specs.File.{wiresOf, gatesOf}
 use Rattle.running.specs.Run.{endFrom}
 use Rattle.verdict.specs.declared.Verdict.{Verdict}

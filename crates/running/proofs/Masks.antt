@@ -15,9 +15,10 @@ use Rattle.numbers.proofs.Parity.{dot-none}
 use Rattle.numbers.proofs.Wires.{bit-xor, bit-own, bit-other, dot-xor, dot-power}
 use Rattle.circuit.specs.declared.Gate.{Gate}
 use Rattle.circuit.specs.declared.Gate.the-variants.{Cnot, Phase}
-use Rattle.circuit.specs.Gates.{Sound, AllSound}
+use Rattle.circuit.specs.Working.{Sound, AllSound}
 use Rattle.running.specs.Run.{stepped, endFrom, totalFrom, phaseFrom}
-use Rattle.running.specs.Masks.{Met, Mask, ownMasks, masksAfter, met, masksFrom, metBy, sumMet, totalBy}
+use Rattle.running.specs.Working.{totalBy}
+use Rattle.running.specs.Masks.{Met, Mask, ownMasks, masksAfter, met, masksFrom, metBy, sumMet}
 use Rattle.circuit.proofs.Decoding.{sound-parts}
 use Rattle.running.proofs.Runs.{start-of}
 

@@ -11,7 +11,7 @@ use Rattle.numbers.proofs.Sums.{interchange}
 use Rattle.numbers.proofs.Wires.{bit-xor, bit-other, xor-adds, xor-weights}
 use Rattle.circuit.specs.declared.Gate.{Gate}
 use Rattle.circuit.specs.declared.Gate.the-variants.{Cnot, Phase}
-use Rattle.circuit.specs.Gates.{Sound, AllSound}
+use Rattle.circuit.specs.Working.{Sound, AllSound}
 use Rattle.running.specs.Run.{stepped, added, endFrom, totalFrom}
 
 pub end-none : (s : ℕ) → endFrom [] s ≡ s

@@ -9,7 +9,7 @@ use lib.ListN.{length, getD, length-set}
 use Rattle.numbers.specs.Bits.{bit}
 use Rattle.circuit.specs.declared.Gate.{Gate}
 use Rattle.circuit.specs.declared.Gate.the-variants.{Cnot, Phase}
-use Rattle.circuit.specs.Gates.{Sound}
+use Rattle.circuit.specs.Working.{Sound}
 use Rattle.running.specs.Run.{stepped, added, cnots, score}
 use Rattle.running.specs.Masks.{Met, Mixed, Mask, masksAfter, met}
 use Rattle.running.specs.Working.{runStep, countStep, addMet, sumStep}

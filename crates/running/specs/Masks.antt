@@ -1,9 +1,8 @@
 -- 01, "Running, counting, folding": "Each wire holds a parity of the starting bits: a mask."
-use Prim.Native.Nat.{ℕ, _+_, _*_, _^_}
+use Prim.Native.Nat.{ℕ, _+_, _^_}
 use mathlib.Core.List.{List, [], _∷_}
 use lib.Bits.{bitXor}
 use lib.ListN.{getD, set}
-use Rattle.numbers.specs.Bits.{dot}
 use Rattle.numbers.specs.Sums.{list}
 use Rattle.circuit.specs.declared.Gate.{Gate}
 use Rattle.circuit.specs.declared.Gate.the-variants.{Cnot, Phase}
@@ -48,7 +47,3 @@ metBy f (Mask m a) = f m a
 unfoldable pub sumMet : (ℕ → ℕ → ℕ) → List Gate → List ℕ → ℕ
 sumMet f [] ms = 0
 sumMet f (g ∷ gs) ms = metBy f (met g ms) + sumMet f gs (masksAfter g ms)
-
--- the total from start x by masks: each phase gate adds its angle where its mask's parity is odd
-abbrev pub totalBy : List Gate → List ℕ → ℕ → ℕ
-totalBy gs ms x = sumMet (λ m a. a * dot m x) gs ms

@@ -9,7 +9,7 @@ ghost use Prim.Native.Nat.{_<_};
 ghost use Rattle.refusal.specs.Checks.{outcome, passed};
 ghost use Rattle.numbers.specs.Bits.{bit};
 ghost use Rattle.running.specs.declared.Ran.the-variants.{End};
-ghost use Rattle.circuit.specs.Gates.{Sound};
+ghost use Rattle.circuit.specs.Working.{Sound};
 ghost use Rattle.circuit.specs.File.{countOf, gatesOf, fileChecks};
 ghost use Rattle.running.specs.Run.{stepped, added, endFrom, phaseFrom, Runs};
 ghost use Rattle.running.specs.Masks.{mostWires};

@@ -5,7 +5,8 @@ use native.Mathlib.Omega.{arith}
 use mathlib.Core.Path.{_≡_, sym, ap, _∙_}
 use lib.Pow.{pow-pos, pow-add}
 use lib.IntN.{ℤ, pos, negℤ, natAbs, _+ℤ_, _*ℤ_}
-use Rattle.numbers.specs.Turn.{_≈_, wrap}
+use Rattle.numbers.specs.Working.{_≈_}
+use Rattle.numbers.specs.Turn.{wrap}
 use Rattle.numbers.proofs.Turns.{_≈∙_, ≈-add, ≈-of, ≈-scale, ≈-sym, wrap-add, wrap-mul, wrap-neg, wrap-below}
 use Rattle.numbers.proofs.Integers.{natAbs-flip}
 use Rattle.spectrum.specs.Spectrum.{coefficient, angle}

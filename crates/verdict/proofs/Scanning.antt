@@ -8,7 +8,8 @@ use lib.Bits.{bitXor}
 use lib.Pow.{pow-lt, pow-mono}
 use Rattle.numbers.specs.Bits.{bit, subset}
 use Rattle.numbers.specs.Sums.{sum}
-use Rattle.numbers.specs.Turn.{_≈_, difference}
+use Rattle.numbers.specs.Working.{_≈_}
+use Rattle.numbers.specs.Turn.{difference}
 use Rattle.numbers.proofs.Sums.{ℕ-adds, sumOf-ext, sumOf-split}
 use Rattle.numbers.proofs.Subsets.{subset-self, subset-above, sum-zero}
 use Rattle.numbers.proofs.Turns.{≈-of, ≈-sym, ≈-add, ≈-refl, ≈-cancel, ≈-small, _≈∙_}

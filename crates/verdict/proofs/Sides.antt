@@ -6,7 +6,7 @@ use mathlib.Core.List.{List}
 use Rattle.numbers.specs.Bits.{bit}
 use Rattle.table.specs.Table.{valueAt}
 use Rattle.circuit.specs.declared.Gate.{Gate}
-use Rattle.circuit.specs.Gates.{AllSound}
+use Rattle.circuit.specs.Working.{AllSound}
 use Rattle.running.proofs.Runs.{end-xor}
 use Rattle.coefficients.specs.Coefficients.{coefficient, idealCoefficient}
 use Rattle.verdict.specs.Verdicts.{circuit, ideal}

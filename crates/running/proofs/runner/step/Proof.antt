@@ -1,6 +1,6 @@
 use native.Mathlib.Omega.{arith}
 use mathlib.Core.Path.{subst}
-use Rattle.circuit.specs.Gates.{Sound}
+use Rattle.circuit.specs.Working.{Sound}
 use Rattle.running.proofs.Stepping.{cnot-steps}
 use borrow.Author.Needs.{needs}
 use Rattle.running.proofs.runner.step.Statement.{statement}

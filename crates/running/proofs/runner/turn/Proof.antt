@@ -1,6 +1,6 @@
 use native.Mathlib.Omega.{arith}
 use mathlib.Core.Path.{subst}
-use Rattle.circuit.specs.Gates.{Sound}
+use Rattle.circuit.specs.Working.{Sound}
 use Rattle.running.proofs.Stepping.{bit-times, phase-turns}
 use borrow.Author.Needs.{needs}
 use Rattle.running.proofs.runner.turn.Statement.{statement}
