@@ -1,11 +1,11 @@
 -- The list of a function's values.
-use Prim.Native.Nat.{ℕ, zero, suc, _+_, _<_, _≤_}
+use Prim.Native.Nat.{ℕ, zero, suc, _+_, _<_}
 use native.Mathlib.Nat.{zero-add, suc-add, add-zero}
 use native.Mathlib.Numerals.{add-one}
 use native.Mathlib.Omega.{arith}
 use mathlib.Core.Path.{_≡_, refl, sym, ap, ap₂, _∙_}
 use mathlib.Core.List.{List, [], _∷_, _++_, append-assoc, append-nil}
-use lib.ListN.{length, getD, drop, set, length-append, length-drop}
+use lib.ListN.{length, getD, drop, set}
 use lib.Seq.{ext-getD, drop-cons, set-at, drop-length}
 use Rattle.numbers.specs.Sums.{list}
 

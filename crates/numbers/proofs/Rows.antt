@@ -3,10 +3,9 @@ use Prim.Native.Nat.{ℕ, _+_, _-_}
 use native.Mathlib.Nat.{add-zero}
 use native.Mathlib.Omega.{arith}
 use mathlib.Core.Path.{_≡_, sym, ap, ap₂, _∙_}
-use mathlib.Core.List.{List, _++_, append-nil}
-use lib.ListN.{length, getD, take, drop, length-drop, drop-of-length-le}
+use mathlib.Core.List.{List}
+use lib.ListN.{length, getD, take, drop, length-drop}
 use lib.Seq.{getD-append-add, getD-drop, take-all}
-use borrow.Rule.Slice.PartMut.{putMid}
 use Rattle.numbers.specs.Sums.{list}
 use Rattle.numbers.proofs.Lists.{length-list, filled}
 
@@ -20,6 +19,3 @@ module _ {A : Type 0} where
   -- the part from h on, as it is lent and as it comes back
   pub end-part : (v : List A) (h : ℕ) → take (length v - h) (drop h v) ≡ drop h v
   end-part v h = take-all (length v - h) (drop h v) (omega (arith, length-drop h v))
-
-  pub end-put : (v b : List A) (h : ℕ) → putMid h (length v - h) v b ≡ take h v ++ b
-  end-put v b h = ap (λ x. take h v ++ (b ++ x)) (drop-of-length-le (drop h v) {i = length v - h} (omega (arith, length-drop h v))) ∙ ap (take h v ++_) (append-nil b)

@@ -9,7 +9,7 @@ use Rattle.refusal.specs.Names.{refusal, ROOM}
 use Rattle.refusal.specs.Checks.{Check, Outcome, passed, refused, outcome, roomCheck}
 use Rattle.refusal.specs.Contract.{Said, values, saidOf, Meets}
 use Rattle.refusal.proofs.Outcomes.{reaches, either, then-refused, both-pass}
-use Rattle.refusal.proofs.Contracts.{meets-values, meets-refusal, first-refuses, second-refuses, both-answer}
+use Rattle.refusal.proofs.Contracts.{first-refuses, second-refuses, both-answer}
 
 enough-room : (room need : ℕ) → need ≤ room → outcome (roomCheck room need) ≡ passed
 enough-room room need h = reaches (roomCheck room need) passed (inr (h, refl))
@@ -41,13 +41,3 @@ module _ {Answer Entry : Type 0} (said : Answer → Said) (cs : List Check) (nee
     -- every check passes
     pub room-enough : need ≤ length before → (a : Answer) (x : List Entry) → said a ≡ values vs → x ≡ result ++ drop (length result) before → Meets said all vs result before a x
     room-enough h a x e q = both-answer said cs room vs result before o a x e (enough-room (length before) need h) q
-
-  -- the room is enough for whatever passes the earlier checks
-  module _ (enough : outcome cs ≡ passed → need ≤ length before) (a : Answer) (after : List Entry) (m : Meets said all vs result before a after) where
-    pub refused-earlier : (r : Refusal) → said a ≡ saidOf r → outcome cs ≡ refused r
-    refused-earlier r e = sym (room-suffices cs (length before) need enough) ∙ meets-refusal said all vs result before a after m r e .0
-
-    pub answers-whole : (ws : List ℕ) → said a ≡ values ws → (outcome cs ≡ passed) × (ws ≡ vs) × (after ≡ result ++ drop (length result) before)
-    answers-whole ws e =
-        let v = meets-values said all vs result before a after m ws e in
-        (sym (room-suffices cs (length before) need enough) ∙ v .0, v .1, v .2)

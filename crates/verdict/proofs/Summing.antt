@@ -28,7 +28,7 @@ use Rattle.coefficients.proofs.Callers.{summarise-answers, ideal-answers, put-e
 use Rattle.verdict.specs.declared.Compared.{Compared}
 use Rattle.verdict.specs.Verdicts.{circuit, ideal, verdict, differences}
 use Rattle.verdict.specs.Judging.{verdictValues, Compares, Judges}
-use Rattle.verdict.specs.Working.{summary, Holds, JudgesSummaries}
+use Rattle.verdict.specs.Working.{summary, HoldsSummary, JudgesSummaries}
 use Rattle.verdict.proofs.Sides.{circuit-summed, ideal-summed}
 use Rattle.verdict.proofs.Judging.{Sums, judged-verdict, judged-differences}
 use Rattle.verdict.proofs.Answers.{both-passed}
@@ -40,7 +40,7 @@ long n f before after e h = omega (arith, ap length e, length-put (list n f) 0 b
 pub record FileSums (side : ℕ) (f row ends : List ℕ) (w : ℕ) : Type 0 where
   pub good : outcome (fileChecks side f) ≡ passed
   pub wires : w ≡ wiresOf f
-  pub holds : Holds w row ends
+  pub holds : HoldsSummary w row ends
   pub sums : Bytes f → Sums (wiresOf f) (circuit (gatesOf f)) (coefficient (wiresOf f) (gatesOf f)) (summary row ends)
 
 pub file-sums : (side : ℕ) (f row₀ ends₀ : List ℕ) (answer : Reading) (row ends : List ℕ) → Summarises side f row₀ ends₀ answer row ends → length row₀ ≡ mostMasks → length ends₀ ≡ mostWires
@@ -54,7 +54,7 @@ file-sums side f row₀ ends₀ answer row ends s lr le w g e =
     record {
       good = p;
       wires = v .1;
-      holds = subst (λ (n : ℕ). Holds n row ends) (sym (v .1)) (record {
+      holds = subst (λ (n : ℕ). HoldsSummary n row ends) (sym (v .1)) (record {
         few = h .few;
         sets = long (2 ^ wiresOf f) (coefficient (wiresOf f) (gatesOf f)) row₀ row (v .0 .row) r;
         wires = long (wiresOf f) (λ i. endFrom (gatesOf f) (2 ^ i)) ends₀ ends (v .0 .ends) d;
@@ -70,7 +70,7 @@ file-sums side f row₀ ends₀ answer row ends s lr le w g e =
 -- and of a table that passed
 pub record TableSums (n : ℕ) (t row ends : List ℕ) : Type 0 where
   pub good : outcome (tableChecks n t) ≡ passed
-  pub holds : Holds (n + 1) row ends
+  pub holds : HoldsSummary (n + 1) row ends
   pub sums : Sums (n + 1) (ideal n (valueAt t)) (idealCoefficient n (valueAt t)) (summary row ends)
 
 pub table-sums : (n : ℕ) (t row₀ ends₀ : List ℕ) (answer : Checked) (row ends : List ℕ) → SummarisesIdeal n t row₀ ends₀ answer row ends → length row₀ ≡ mostMasks → length ends₀ ≡ mostWires

@@ -4,7 +4,7 @@ use mathlib.Core.Bool.{Bool, not, cond}
 use mathlib.Core.List.{List}
 use lib.Dec.{ltb, eqb}
 use lib.Bits.{bitXor}
-use lib.ListN.{length, getD}
+use lib.ListN.{length}
 use Rattle.numbers.specs.Bits.{bit}
 use Rattle.numbers.specs.Sums.{sumOf}
 use Rattle.numbers.specs.Search.{least}
@@ -12,14 +12,12 @@ use Rattle.numbers.specs.Turn.{difference}
 use Rattle.refusal.specs.Checks.{outcome}
 use Rattle.refusal.specs.Contract.{Meets}
 use Rattle.running.specs.Masks.{mostWires}
+use Rattle.coefficients.specs.Working.{entry}
 use Rattle.verdict.specs.declared.Verdict.{Verdict}
 use Rattle.verdict.specs.declared.Verdict.the-variants.{Same, Different}
 use Rattle.verdict.specs.declared.Compared.{Compared}
 use Rattle.verdict.specs.Verdicts.{differences}
 use Rattle.verdict.specs.Judging.{verdictValues, comparedSays, workChecks}
-
-abbrev pub entry : List ℕ → ℕ → ℕ
-entry v i = getD v i 0
 
 -- a side's coefficients, set by set, and the ends of its single-wire starts, wire by wire
 pub record Summary : Type 0 where
@@ -31,7 +29,7 @@ abbrev pub summary : List ℕ → List ℕ → Summary
 summary row ends = record { coefficients = entry row; ends = entry ends }
 
 -- they are long enough for one on w wires
-pub record Holds (w : ℕ) (row ends : List ℕ) : Type 0 where
+pub record HoldsSummary (w : ℕ) (row ends : List ℕ) : Type 0 where
   pub few : w ≤ mostWires
   pub sets : 2 ^ w ≤ length row
   pub wires : w ≤ length ends

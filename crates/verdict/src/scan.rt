@@ -5,7 +5,8 @@ ghost use Prim.Native.Nat.{_*_, _≤_, _<_};
 ghost use lib.ListN.{length};
 ghost use Rattle.numbers.specs.Search.{least};
 ghost use Rattle.running.specs.Masks.{mostWires};
-ghost use Rattle.verdict.specs.Working.{entry, unlike, endOf, summary, Holds, lowestPlace, judged};
+ghost use Rattle.coefficients.specs.Working.{entry};
+ghost use Rattle.verdict.specs.Working.{unlike, endOf, summary, HoldsSummary, lowestPlace, judged};
 
 // The verdict at the lowest place where the summaries differ: both ends there, and first minus second.
 pub(crate) fn scan(
@@ -15,7 +16,7 @@ pub(crate) fn scan(
     second: &[u16],
     seconds: &[u16],
 ) -> Verdict
-    requires { ⌜ Holds wires (now first) (now firsts) × Holds wires (now second) (now seconds) ⌝ }
+    requires { ⌜ HoldsSummary wires (now first) (now firsts) × HoldsSummary wires (now second) (now seconds) ⌝ }
     ensures { λ r. ⌜ r ≡ judged wires (summary (now (first .entry)) (now (firsts .entry))) (summary (now (second .entry)) (now (seconds .entry))) ⌝ }
 {
     let state = lowest_place(wires, first, firsts, second, seconds);
@@ -34,7 +35,7 @@ pub(crate) fn scan(
 
 // The lowest place of unlike coefficients, or of unlike ends, wire i's standing at 2^i; 2^w where all are alike.
 fn lowest_place(wires: u8, first: &[u16], firsts: &[u16], second: &[u16], seconds: &[u16]) -> usize
-    requires { ⌜ Holds wires (now first) (now firsts) × Holds wires (now second) (now seconds) ⌝ }
+    requires { ⌜ HoldsSummary wires (now first) (now firsts) × HoldsSummary wires (now second) (now seconds) ⌝ }
     ensures { λ r. ⌜ r ≡ lowestPlace wires (summary (now (first .entry)) (now (firsts .entry))) (summary (now (second .entry)) (now (seconds .entry))) ⌝ }
 {
     let place = first_unlike(first, second, numbers::power(wires));

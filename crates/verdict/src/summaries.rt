@@ -8,7 +8,8 @@ ghost use Prim.Native.Nat.{_≤_};
 ghost use lib.ListN.{length, drop};
 ghost use Rattle.numbers.specs.Sums.{list};
 ghost use Rattle.numbers.specs.Turn.{difference};
-ghost use Rattle.verdict.specs.Working.{entry, summary, Holds, JudgesSummaries};
+ghost use Rattle.coefficients.specs.Working.{entry};
+ghost use Rattle.verdict.specs.Working.{summary, HoldsSummary, JudgesSummaries};
 
 // Refused where the wires differ or the work slice is short; else the front of work becomes the first's coefficients
 // minus the second's.
@@ -21,7 +22,7 @@ pub(crate) fn judge_summaries(
     seconds: &[u16],
     work: &mut [u16],
 ) -> Compared
-    requires { ⌜ Holds wires (now first) (now firsts) × Holds width (now second) (now seconds) ⌝ }
+    requires { ⌜ HoldsSummary wires (now first) (now firsts) × HoldsSummary width (now second) (now seconds) ⌝ }
     ensures { λ r. ⌜ JudgesSummaries wires (summary (now (first .entry)) (now (firsts .entry))) width (summary (now (second .entry)) (now (seconds .entry))) (now (work .entry)) r (now (work .exit)) ⌝ }
 {
     if wires != width {

@@ -1,7 +1,7 @@
 -- Below 0, -1 - x is at least 0 and one less than the magnitude.
 use borrow.Author.Tests.{ltb-true, le-ltb}
 use Prim.Native.Nat.{ℕ, suc, _+_, _^_, _<_}
-use mathlib.Core.Path.{_≡_, refl, ap}
+use mathlib.Core.Path.{_≡_, ap}
 use mathlib.Core.Bool.{true, false}
 use native.Mathlib.Omega.{arith}
 use lib.Dec.{T}

@@ -1,7 +1,8 @@
 use Prim.Native.Nat.{ℕ, _-_, _≤_}
 use mathlib.Core.Path.{_≡_, ap, _∙_}
 use native.Mathlib.Omega.{arith}
-use Rattle.verdict.specs.Working.{entry, endOf}
+use Rattle.coefficients.specs.Working.{entry}
+use Rattle.verdict.specs.Working.{endOf}
 use Rattle.verdict.proofs.Judging.{end-none, end-next}
 use Rattle.verdict.proofs.scan.end_at.Statement.{statement}
 use Rattle.verdict.proofs.scan.end_at.Tie as tie

@@ -1,7 +1,7 @@
 use Prim.Native.Nat.{ℕ, _-_, _<_, _≤_}
 use mathlib.Core.Path.{_≡_}
 use borrow.Author.Count.{below-more}
-use Rattle.verdict.specs.Working.{entry}
+use Rattle.coefficients.specs.Working.{entry}
 use Rattle.verdict.proofs.Judging.{unlike-least}
 use native.Mathlib.Omega.{arith}
 use Rattle.verdict.proofs.scan.first_unlike.Statement.{statement}

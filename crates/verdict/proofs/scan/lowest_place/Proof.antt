@@ -4,7 +4,8 @@ use native.Mathlib.Omega.{arith}
 use borrow.Author.Needs.{needs}
 use Rattle.numbers.specs.Search.{least}
 use Rattle.numbers.proofs.Powers.{small-power}
-use Rattle.verdict.specs.Working.{entry, unlike, summary}
+use Rattle.coefficients.specs.Working.{entry}
+use Rattle.verdict.specs.Working.{unlike, summary}
 use Rattle.verdict.proofs.Judging.{unlike-found, place-first, wire-first}
 use Rattle.verdict.proofs.scan.lowest_place.Statement.{statement}
 use Rattle.verdict.proofs.scan.lowest_place.Tie as tie

@@ -5,7 +5,8 @@ use lib.Pow.{pow-mono}
 use borrow.Author.Needs.{needs}
 use Rattle.numbers.proofs.Powers.{small-power}
 use Rattle.numbers.proofs.Turns.{subtracted}
-use Rattle.verdict.specs.Working.{entry, summary}
+use Rattle.coefficients.specs.Working.{entry}
+use Rattle.verdict.specs.Working.{summary}
 use Rattle.verdict.proofs.Judging.{judged-different, judged-same}
 use Rattle.verdict.proofs.scan.scan.Statement.{statement}
 use Rattle.verdict.proofs.scan.scan.Tie as tie

@@ -10,7 +10,8 @@ use Rattle.numbers.proofs.Lists.{length-list}
 use Rattle.numbers.proofs.Powers.{small-power}
 use Rattle.verdict.specs.Verdicts.{differences}
 use Rattle.verdict.specs.Judging.{verdictValues}
-use Rattle.verdict.specs.Working.{entry, summary, Holds, judged}
+use Rattle.coefficients.specs.Working.{entry}
+use Rattle.verdict.specs.Working.{summary, HoldsSummary, judged}
 use Rattle.verdict.proofs.Answers.{wires-refused, work-refused, work-enough}
 use Rattle.verdict.proofs.summaries.judge_summaries.Statement.{statement}
 use Rattle.verdict.proofs.summaries.judge_summaries.Tie as tie
@@ -61,7 +62,7 @@ scan-requires : tie.Need-scan-requires
 scan-requires c κs =
     let p = sized (c .before .before) in
     let s = begun p in
-    (s .pre .0, subst (λ (n : ℕ). Holds n (s .args .second .now) (s .args .seconds .now)) (sym (p .before .if1 .left)) (s .pre .1))
+    (s .pre .0, subst (λ (n : ℕ). HoldsSummary n (s .args .second .now) (s .args .seconds .now)) (sym (p .before .if1 .left)) (s .pre .1))
 
 same-length : tie.Need-same-length
 same-length c = search needs

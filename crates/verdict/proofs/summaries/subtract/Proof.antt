@@ -5,7 +5,7 @@ use lib.ListN.{length, length-set}
 use Rattle.numbers.specs.Turn.{difference}
 use Rattle.numbers.proofs.Turns.{subtracted}
 use Rattle.numbers.proofs.Lists.{filled, fill-again}
-use Rattle.verdict.specs.Working.{entry}
+use Rattle.coefficients.specs.Working.{entry}
 use native.Mathlib.Omega.{arith}
 use borrow.Author.Needs.{needs}
 use Rattle.verdict.proofs.summaries.subtract.Statement.{statement}
