@@ -67,8 +67,8 @@ void phg_spectrum(uint8_t n, const uint8_t *table, size_t table_len, int32_t *ou
  * angle; answer[3] is the position as given. A bad gate: six zeros. No refusals. */
 void phg_decode(uint8_t w, size_t position, uint8_t kind, uint8_t a, uint8_t b, uint8_t c, uint64_t answer[6]);
 
-/* A file checked; `side` is what a refusal answers as its side. answer[1]: wires, [2]: gates. Refusals: FILE. */
-void phg_read(const uint8_t *file, size_t file_len, uint8_t side, uint64_t answer[6]);
+/* A file checked. answer[1]: wires, [2]: gates. Refusals: FILE. */
+void phg_read(const uint8_t *file, size_t file_len, uint64_t answer[6]);
 
 /* A run from one starting state. answer[1]: end state, [2]: phase. Refusals: FILE, STATE. */
 void phg_run(const uint8_t *file, size_t file_len, uint16_t start, uint64_t answer[6]);

@@ -54,10 +54,10 @@ pub extern "C" fn phg_decode(
 }
 
 #[no_mangle]
-pub extern "C" fn phg_read(file: &[u8], side: u8, answer: &mut [u64; 6])
-    ensures { λ _. ⌜ TellsAnswer (Reads side (now (file .entry))) readingSays (now (answer .exit)) ⌝ }
+pub extern "C" fn phg_read(file: &[u8], answer: &mut [u64; 6])
+    ensures { λ _. ⌜ TellsAnswer (Reads (now (file .entry))) readingSays (now (answer .exit)) ⌝ }
 {
-    *answer = told::reading(circuit::read(file, side));
+    *answer = told::reading(circuit::read(file));
 }
 
 #[no_mangle]

@@ -81,10 +81,18 @@ fn gate(answer: Decoded) {
     }
 }
 
+// 01's reader, or what it is made of where another side is asked for.
+fn reading(side: u8, file: &[u8]) -> Reading {
+    if side == 0 {
+        return circuit::read(file);
+    }
+    circuit::read_side(file, side)
+}
+
 // Wires and gates; end state and phase; CNOTs, phase gates and score.
 fn read(op: u8, side: u8, start: u16, file: &[u8]) {
     match op {
-        request::READ => match circuit::read(file, side) {
+        request::READ => match reading(side, file) {
             Reading::Circuit { wires, gates } => {
                 answers(wires as usize);
                 number(gates)

@@ -11,7 +11,7 @@ use Rattle.refusal.proofs.Passed.{passed-fail, fail-passed}
 use Rattle.refusal.proofs.Contracts.{Distinct, same-refusal, answers-values, answers-refusal}
 use Rattle.circuit.specs.declared.Reading.{Reading}
 use Rattle.circuit.specs.declared.Reading.the-variants.{Circuit, Refused}
-use Rattle.circuit.specs.File.{markOf, versionOf, wiresOf, countOf, badOf, fileChecks, readingSays, Reads}
+use Rattle.circuit.specs.File.{markOf, versionOf, wiresOf, countOf, badOf, fileChecks, readingSays, ReadsSide}
 
 -- a file that passes every check
 pub record GoodFile (f : List ℕ) : Type 0 where
@@ -58,7 +58,7 @@ pub record Answered (s : ℕ) (f : List ℕ) (w g : ℕ) : Type 0 where
   pub wires : w ≡ wiresOf f
   pub count : g ≡ countOf f
 
-module _ (s : ℕ) (f : List ℕ) (r : Reading) (says : Reads s f r) where
+module _ (s : ℕ) (f : List ℕ) (r : Reading) (says : ReadsSide s f r) where
   pub read-answers : (w g : ℕ) → r ≡ Circuit w g → Answered s f w g
   read-answers w g e =
       let v = answers-values readingSays (outcome (fileChecks s f)) (wiresOf f ∷ countOf f ∷ []) r says (w ∷ g ∷ []) (ap readingSays e) in

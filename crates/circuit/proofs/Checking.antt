@@ -13,12 +13,12 @@ use Rattle.refusal.proofs.Outcomes.{Reaches, reaches}
 use Rattle.circuit.specs.declared.Reading.{Reading}
 use Rattle.circuit.specs.declared.Reading.the-variants.{Circuit, Refused}
 use Rattle.circuit.specs.Gates.{firstBad}
-use Rattle.circuit.specs.File.{wiresOf, countOf, badOf, fileChecks, Reads}
+use Rattle.circuit.specs.File.{wiresOf, countOf, badOf, fileChecks, ReadsSide}
 
-pub refusing : (s : ℕ) (f : List ℕ) (x : Refusal) (r : Reading) → r ≡ Refused x → Reaches (fileChecks s f) (refused x) → Reads s f r
+pub refusing : (s : ℕ) (f : List ℕ) (x : Refusal) (r : Reading) → r ≡ Refused x → Reaches (fileChecks s f) (refused x) → ReadsSide s f r
 refusing s f x r e h = rw (e, reaches (fileChecks s f) (refused x) h)
 
-pub answering : (s : ℕ) (f : List ℕ) (w g : ℕ) → w ≡ wiresOf f → g ≡ countOf f → Reaches (fileChecks s f) passed → Reads s f (Circuit w g)
+pub answering : (s : ℕ) (f : List ℕ) (w g : ℕ) → w ≡ wiresOf f → g ≡ countOf f → Reaches (fileChecks s f) passed → ReadsSide s f (Circuit w g)
 answering s f w g p q h = rw (reaches (fileChecks s f) passed h) (ap₂ (λ (m n : ℕ). values (m ∷ n ∷ [])) p q)
 
 abbrev gateCheck : ℕ → List ℕ → List Check

@@ -65,6 +65,10 @@ abbrev pub readingSays : Reading → Said
 readingSays (Circuit w g) = values (w ∷ g ∷ [])
 readingSays (Refused r) = saidOf r
 
--- the contract of read
-abbrev pub Reads : ℕ → List ℕ → Reading → Type 0
-Reads s f answer = Says readingSays (outcome (fileChecks s f)) (wiresOf f ∷ countOf f ∷ []) answer
+-- the contract of read_side: of the file that is given as side s
+abbrev pub ReadsSide : ℕ → List ℕ → Reading → Type 0
+ReadsSide s f answer = Says readingSays (outcome (fileChecks s f)) (wiresOf f ∷ countOf f ∷ []) answer
+
+-- the contract of read: a call's only file is side 0
+abbrev pub Reads : List ℕ → Reading → Type 0
+Reads = ReadsSide 0

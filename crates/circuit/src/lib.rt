@@ -10,6 +10,7 @@ pub use decoder::decode;
 pub use gates::gate_at;
 pub use gates::good_gate;
 pub use reader::read;
+pub use reader::read_side;
 pub use writer::put_gate;
 pub use writer::put_header;
 

@@ -9,7 +9,7 @@ ghost use Prim.Native.Nat.{_+_, _*_, _≤_};
 ghost use lib.ListN.{length, drop};
 ghost use Rattle.circuit.specs.declared.Reading.the-variants.{Refused};
 ghost use Rattle.circuit.specs.Gates.{firstBad};
-ghost use Rattle.circuit.specs.File.{wiresOf, Reads};
+ghost use Rattle.circuit.specs.File.{wiresOf, ReadsSide, Reads};
 
 // The position of the first bad gate, or `gates` where none is bad.
 fn first_bad(file: &[u8], gates: usize) -> usize
@@ -44,9 +44,9 @@ fn refused(number: u8, side: u8, position: usize) -> Reading
     })
 }
 
-// The wires and the gate count of a file, or the refusal of the first check that fails.
-pub fn read(file: &[u8], side: u8) -> Reading
-    ensures { λ r. ⌜ Reads side (now (file .entry)) r ⌝ }
+// The wires and the gate count of the file that is given as this side, or the refusal of the first check that fails.
+pub fn read_side(file: &[u8], side: u8) -> Reading
+    ensures { λ r. ⌜ ReadsSide side (now (file .entry)) r ⌝ }
 {
     if file.len() < 8 {
         return refused(refusal::SHORT, side, 0);
@@ -76,4 +76,11 @@ pub fn read(file: &[u8], side: u8) -> Reading
         return refused(refusal::GATE, side, bad);
     }
     Reading::Circuit { wires, gates }
+}
+
+// The same of a call's only file.
+pub fn read(file: &[u8]) -> Reading
+    ensures { λ r. ⌜ Reads (now (file .entry)) r ⌝ }
+{
+    read_side(file, 0)
 }

@@ -83,9 +83,9 @@ module _ (n : ℕ) (t : List ℕ) where
 
 -- files
 module _ (f : List ℕ) where
-  pub read-whole : (s : ℕ) (a : Reading) → Reads s (take 8201 f) a → Reads s f a
-  read-whole s a =
-      carried (fileChecks s) (take 8201 f) f (file-cut s f) (file-whole s f) (λ o g. Says readingSays o (wiresOf g ∷ countOf g ∷ []) a) (λ r x. x)
+  pub read-whole : (a : Reading) → Reads (take 8201 f) a → Reads f a
+  read-whole a =
+      carried (fileChecks 0) (take 8201 f) f (file-cut 0 f) (file-whole 0 f) (λ o g. Says readingSays o (wiresOf g ∷ countOf g ∷ []) a) (λ r x. x)
 
   pub count-whole : (a : Counted) → Counts (take 8201 f) a → Counts f a
   count-whole a =

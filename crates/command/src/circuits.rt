@@ -36,7 +36,7 @@ pub(crate) fn call(command: usize, line: &[u8], first: usize, errors: i32)
 }
 
 fn read(file: &[u8]) {
-    match circuit::read(file, 0) {
+    match circuit::read(file) {
         Reading::Refused(r) => answers::refused(r),
         Reading::Circuit { wires, gates } => {
             let row = [wires as usize, gates];

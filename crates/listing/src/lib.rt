@@ -73,7 +73,7 @@ fn put_gates(file: &[u8], gates: usize, out: &mut [u8], at: usize) -> usize
 pub fn list(file: &[u8], wrapped: bool, out: &mut [u8]) -> Listed
     ensures { λ r. ⌜ Lists wrapped (now (file .entry)) (now (out .entry)) r (now (out .exit)) ⌝ }
 {
-    match circuit::read(file, 0) {
+    match circuit::read(file) {
         Reading::Refused(refusal) => Listed::Refused(refusal),
         Reading::Circuit { wires, gates } => {
             if !fits(file, wires, gates, wrapped, out.len()) {

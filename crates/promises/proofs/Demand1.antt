@@ -17,7 +17,7 @@ use Rattle.table.specs.Table.{tableChecks, checkedSays, Checks}
 use Rattle.spectrum.specs.declared.Transformed.{Transformed}
 use Rattle.spectrum.specs.Spectrum.{spectrumChecks, transformedSays, Transforms}
 use Rattle.circuit.specs.declared.Reading.{Reading}
-use Rattle.circuit.specs.File.{fileChecks, readingSays, Reads}
+use Rattle.circuit.specs.File.{fileChecks, readingSays, ReadsSide, Reads}
 use Rattle.running.specs.declared.Ran.{Ran}
 use Rattle.running.specs.declared.Counted.{Counted}
 use Rattle.running.specs.Run.{runChecks, ranSays, Runs, countedSays, Counts}
@@ -75,8 +75,11 @@ check-first n t = first-of-says checkedSays (tableChecks n t) _
 pub spectrum-first : (n : ℕ) (t : List ℕ) (out : List ℤ) (a : Transformed) (after : List ℤ) → Transforms n t out a after → FirstDemand transformedSays (spectrumChecks n t (length out)) out a after
 spectrum-first n t out = first-of-meets transformedSays (spectrumChecks n t (length out)) _ _ out
 
-pub read-first : (s : ℕ) (f : List ℕ) (a : Reading) → Reads s f a → FirstDemand {Entry = ℕ} readingSays (fileChecks s f) [] a []
-read-first s f = first-of-says readingSays (fileChecks s f) _
+pub side-read-first : (s : ℕ) (f : List ℕ) (a : Reading) → ReadsSide s f a → FirstDemand {Entry = ℕ} readingSays (fileChecks s f) [] a []
+side-read-first s f = first-of-says readingSays (fileChecks s f) _
+
+pub read-first : (f : List ℕ) (a : Reading) → Reads f a → FirstDemand {Entry = ℕ} readingSays (fileChecks 0 f) [] a []
+read-first = side-read-first 0
 
 pub run-first : (f : List ℕ) (start : ℕ) (a : Ran) → Runs f start a → FirstDemand {Entry = ℕ} ranSays (runChecks f start) [] a []
 run-first f start = first-of-says ranSays (runChecks f start) _

@@ -11,7 +11,7 @@ use Rattle.spectrum.specs.Spectrum.{transformedSays, Transforms}
 use Rattle.spectrum.proofs.Callers.{transformed-distinct}
 use Rattle.circuit.specs.declared.Decoded.{Decoded}
 use Rattle.circuit.specs.Gates.{decoded}
-use Rattle.circuit.specs.File.{Reads}
+use Rattle.circuit.specs.File.{ReadsSide, Reads}
 use Rattle.circuit.proofs.Callers.{reading-distinct}
 use Rattle.running.specs.Run.{Runs, Counts}
 use Rattle.running.proofs.Callers.{ran-distinct, counted-distinct}
@@ -35,8 +35,11 @@ one-spectrum n t out = one-answer transformedSays _ _ _ out transformed-distinct
 pub one-decoding : (w p k x y z : ℕ) → NoSecondAnswer (λ (a : Decoded). a ≡ decoded w p k x y z)
 one-decoding w p k x y z a b e d = e ∙ sym d
 
-pub one-reading : (s : ℕ) (f : List ℕ) → NoSecondAnswer (Reads s f)
-one-reading s f a b = one-said reading-distinct a b
+pub one-side-reading : (s : ℕ) (f : List ℕ) → NoSecondAnswer (ReadsSide s f)
+one-side-reading s f a b = one-said reading-distinct a b
+
+pub one-reading : (f : List ℕ) → NoSecondAnswer (Reads f)
+one-reading = one-side-reading 0
 
 pub one-run : (f : List ℕ) (start : ℕ) → NoSecondAnswer (Runs f start)
 one-run f start a b = one-said ran-distinct a b

@@ -67,7 +67,7 @@ spectrum-refusing = record { input = (1, 2 ∷ [], replicate 2 (pos 0)); fails =
 
 pub read-refusing : Unacceptable reading (RefusesEverything readingSays)
 unfolding outcome fileOf bytesOf firstBad
-read-refusing = record { input = (0, empty); fails = λ a x r m. never readingSays (fileChecks 0 empty) _ a refl m r }
+read-refusing = record { input = empty; fails = λ a x r m. never readingSays (fileChecks 0 empty) _ a refl m r }
 
 pub run-refusing : Unacceptable running (RefusesEverything ranSays)
 unfolding outcome fileOf bytesOf firstBad

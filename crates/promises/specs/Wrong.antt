@@ -50,8 +50,8 @@ checking i answer after = Checks (i .0) (i .1) answer
 abbrev pub transforming : ℕ × List ℕ × List ℤ → Transformed → List ℤ → Type 0
 transforming i = Transforms (i .0) (i .1) (i .2)
 
-abbrev pub reading : ℕ × List ℕ → Reading → List ℕ → Type 0
-reading i answer after = Reads (i .0) (i .1) answer
+abbrev pub reading : List ℕ → Reading → List ℕ → Type 0
+reading i answer after = Reads i answer
 
 abbrev pub running : List ℕ × ℕ → Ran → List ℕ → Type 0
 running i answer after = Runs (i .0) (i .1) answer

@@ -7,7 +7,7 @@ use Rattle.refusal.specs.declared.Refusal.{Refusal}
 use Rattle.circuit.specs.declared.Reading.{Reading}
 use Rattle.circuit.specs.declared.Reading.the-variants.{Circuit, Refused}
 use Rattle.circuit.specs.Bytes.{Bytes}
-use Rattle.circuit.specs.File.{gatesOf, Reads}
+use Rattle.circuit.specs.File.{gatesOf, ReadsSide}
 use Rattle.circuit.specs.Working.{walked}
 use Rattle.circuit.proofs.Callers.{read-answers, read-refuses}
 use Rattle.running.specs.Masks.{mostWires, mostMasks, ownMasks}
@@ -15,7 +15,7 @@ use Rattle.running.specs.Groups.{SumsGroups}
 use Rattle.running.specs.Working.{sumStep}
 use Rattle.running.proofs.Walks.{file-masks, file-totals}
 
-module _ (side : ℕ) (f totals masks : List ℕ) (answer : Reading) (says : Reads side f answer) where
+module _ (side : ℕ) (f totals masks : List ℕ) (answer : Reading) (says : ReadsSide side f answer) where
   pub groups-refused : (x : Refusal) → answer ≡ Refused x → SumsGroups side f totals masks answer totals masks
   groups-refused x e = let r = read-refuses side f answer says x e in record { reads = says; sums = rw r; holds = rw r }
 

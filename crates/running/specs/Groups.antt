@@ -8,7 +8,7 @@ use Rattle.numbers.specs.Sums.{list}
 use Rattle.refusal.specs.Checks.{outcome, settle}
 use Rattle.circuit.specs.declared.Gate.{Gate}
 use Rattle.circuit.specs.declared.Reading.{Reading}
-use Rattle.circuit.specs.File.{wiresOf, gatesOf, fileChecks, Reads}
+use Rattle.circuit.specs.File.{wiresOf, gatesOf, fileChecks, ReadsSide}
 use Rattle.running.specs.Masks.{mostWires, mostMasks, ownMasks, masksFrom, sumMet}
 
 -- "the wrapped sum of the group" of mask m
@@ -32,6 +32,6 @@ masksOf f = masksFrom (gatesOf f) (ownMasks mostWires)
 
 -- the contract of sum_groups: it answers as the reader does, and a refusal leaves both rows as they were
 pub record SumsGroups (side : ℕ) (f totals masks : List ℕ) (answer : Reading) (totals′ masks′ : List ℕ) : Type 0 where
-  pub reads : Reads side f answer
+  pub reads : ReadsSide side f answer
   pub sums : totals′ ≡ settle (outcome (fileChecks side f)) (λ _. totals) (totalsOf f)
   pub holds : masks′ ≡ settle (outcome (fileChecks side f)) (λ _. masks) (masksOf f)

@@ -68,7 +68,7 @@ fn count_gates(file: &[u8], gates: usize) -> Counted
 pub fn count(file: &[u8]) -> Counted
     ensures { λ r. ⌜ Counts (now (file .entry)) r ⌝ }
 {
-    match read(file, 0) {
+    match read(file) {
         Reading::Refused(refusal) => Counted::Refused(refusal),
         Reading::Circuit { wires: _, gates } => count_gates(file, gates),
     }

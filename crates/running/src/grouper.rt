@@ -60,7 +60,7 @@ pub fn sum_groups(
 ) -> Reading
     ensures { λ r. ⌜ SumsGroups side (now (file .entry)) (now (totals .entry)) (now (masks .entry)) r (now (totals .exit)) (now (masks .exit)) ⌝ }
 {
-    let reading = circuit::read(file, side);
+    let reading = circuit::read_side(file, side);
     if let Reading::Circuit { wires: _, gates } = reading {
         let mut sums = [0u16; MASKS];
         let mut held = own_masks();

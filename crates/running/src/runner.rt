@@ -67,7 +67,7 @@ fn run_gates(file: &[u8], gates: usize, start: u16) -> Ran
 pub fn run(file: &[u8], start: u16) -> Ran
     ensures { λ r. ⌜ Runs (now (file .entry)) start r ⌝ }
 {
-    match read(file, 0) {
+    match read(file) {
         Reading::Refused(refusal) => Ran::Refused(refusal),
         Reading::Circuit { wires, gates } => {
             if (start as usize) >= power(wires) {

@@ -9,8 +9,8 @@ use Rattle.refusal.specs.Names.{refusalAt, SHORT, MARK, VERSION, WIRES, COUNT, 
 use Rattle.circuit.specs.File.{wiresOf, fileChecks}
 use Rattle.circuit.proofs.Checking.{refusing, answering, bad-gate, no-bad-gate}
 use borrow.Author.Needs.{needs}
-use Rattle.circuit.proofs.reader.read.Statement.{statement}
-use Rattle.circuit.proofs.reader.read.Tie as tie
+use Rattle.circuit.proofs.reader.read_side.Statement.{statement}
+use Rattle.circuit.proofs.reader.read_side.Tie as tie
 
 -- the place behind each check, from the next one
 abbrev passed1 : tie.Else2 → tie.Else1
@@ -219,8 +219,8 @@ returns-9 c =
     answering (a .side) (a .file .now) (wiresOf (a .file .now)) (g .result) refl (g .ensures)
     (past7 (c .before .before) (no-bad-gate (a .side) (a .file .now) (g .result) (b .result) (g .ensures) (b .ensures) (c .if8 .left)))
 
-pub read-spec : {M : Type 1} → statement M
-read-spec =
+pub read-side-spec : {M : Type 1} → statement M
+read-side-spec =
     tie.close
     (tie.spec
     refused-requires
