@@ -1,11 +1,10 @@
 -- What the built file is: well formed, of the length that is answered, and its table's oracle.
 use Prim.Native.Nat.{ℕ, _+_, _-_, _*_, _%_, _^_, _<_, _≤_}
 use native.Mathlib.Omega.{arith}
-use mathlib.Core.Path.{_≡_, ap, _∙_}
+use mathlib.Core.Path.{_≡_, _∙_}
 use mathlib.Core.List.{List}
 use lib.ListN.{length}
-use lib.Arith.{digits-lt}
-use lib.Pow.{pow-add, pow-mono}
+use lib.Pow.{pow-mono}
 use Rattle.refusal.specs.Checks.{passed, outcome}
 use Rattle.table.specs.Table.{valueAt}
 use Rattle.spectrum.specs.Spectrum.{theta}
@@ -14,7 +13,7 @@ use Rattle.circuit.specs.File.{wiresOf, countOf, gatesOf, fileChecks}
 use Rattle.circuit.proofs.Files.{wires-written, count-written, list-written, written-passes}
 use Rattle.build.specs.Construction.{minus, construction, builtFile}
 use Rattle.build.proofs.Circuits.{length-parts, length-parts-file, sound-construction}
-use Rattle.build.proofs.Oracle.{construction-ends, oracle-phase}
+use Rattle.build.proofs.Oracle.{construction-run}
 
 count-is : (n : ℕ) (f : ℕ → ℕ) → 0 < n → length (construction n f) + 2 ≡ 2 ^ (n + 2)
 unfolding construction
@@ -42,13 +41,7 @@ module _ (n : ℕ) (t : List ℕ) (p : 0 < n) (small : n ≤ 8) where
   pub built-gates : gatesOf (builtFile n t) ≡ construction n (valueAt t)
   built-gates = list-written (n + 1) (construction n (valueAt t)) (sound-construction n (valueAt t))
 
-  start-below : (x y : ℕ) → x < 2 ^ n → y < 2 → x + y * 2 ^ n < 2 ^ (n + 1)
-  start-below x y hx hy = omega (arith, digits-lt {q = y} {m = 2} {r = x} {c = 2 ^ n} hy hx, pow-add 2 n 1)
-
   -- its run from x + y 2^n ends where it starts, with phase 32,768 f(x) y
   pub built-run : (x y : ℕ) → x < 2 ^ n → y < 2
       → (endFrom (gatesOf (builtFile n t)) (x + y * 2 ^ n) ≡ x + y * 2 ^ n) × (phaseFrom (gatesOf (builtFile n t)) (x + y * 2 ^ n) ≡ 32768 * valueAt t x * y % 65536)
-  built-run x y hx hy = (
-    ap (λ gs. endFrom gs (x + y * 2 ^ n)) built-gates ∙ construction-ends n (valueAt t) (x + y * 2 ^ n) (start-below x y hx hy),
-    ap (λ gs. phaseFrom gs (x + y * 2 ^ n)) built-gates ∙ oracle-phase n (valueAt t) x y small hx hy (omega arith) .alike,
-  )
+  built-run x y hx hy = rw built-gates (construction-run n (valueAt t) x y (omega arith) hx hy (omega arith))

@@ -4,6 +4,7 @@ use native.Mathlib.Nat.{add-zero, zero-add, add-comm, mul-one, mul-zero, add-mul
 use native.Mathlib.Omega.{arith}
 use mathlib.Core.Path.{_≡_, sym, ap, subst, subst₂, _∙_}
 use lib.ListN.{getD}
+use lib.Arith.{digits-lt}
 use lib.Pow.{pow-pos, pow-add}
 use lib.IntN.{ℤ, pos, negℤ, _*ℤ_}
 use Rattle.numbers.specs.Bits.{dot}
@@ -19,7 +20,7 @@ use Rattle.numbers.proofs.Wires.{same-bits, dot-power}
 use Rattle.spectrum.specs.Spectrum.{coefficient, angle, theta}
 use Rattle.spectrum.proofs.Inversion.{spectrum-inverts}
 use Rattle.spectrum.proofs.Angles.{angle-add, angle-opposite, angle-positive, angle-negative}
-use Rattle.running.specs.Run.{endFrom, totalFrom}
+use Rattle.running.specs.Run.{endFrom, phaseFrom, totalFrom}
 use Rattle.running.proofs.Runs.{end-below}
 use Rattle.running.proofs.Masks.{wire-parity, total-parity}
 use Rattle.build.specs.Construction.{minus, construction}
@@ -40,7 +41,7 @@ angle-sum : (n m : ℕ) (g : ℕ → ℤ) → angle n (sumℤ m g) ≈ sum m (λ
 angle-sum n zero g = ≈-of (ap (_% 65536) (zero-mul (2 ^ (14 - n))))
 angle-sum n (suc m) g = angle-add n (sumℤ m g) (g m) ≈∙ ≈-add (angle-sum n m g) ≈-refl
 
-module _ (n : ℕ) (f : ℕ → ℕ) (x : ℕ) (small : n ≤ 8) (hx : x < 2 ^ n) where
+module _ (n : ℕ) (f : ℕ → ℕ) (x : ℕ) (small : n ≤ 14) (hx : x < 2 ^ n) where
   θ : ℕ → ℕ
   θ = theta n f
 
@@ -108,8 +109,16 @@ module _ (n : ℕ) (f : ℕ → ℕ) (x : ℕ) (small : n ≤ 8) (hx : x < 2 ^ n
       ≈-cancel (16384 + f x * 32768)
       (≈-add ≈-refl (≈-of (sym (signed-is (f x) h))) ≈∙ phase-high ≈∙ ≈-sym (≈-turns 16384 (f x)) ≈∙ ≈-of (let e : 16384 + f x * 65536 ≡ 32768 * f x + (16384 + f x * 32768) = omega arith in e))
 
--- "the run of the built file from state x + y 2^n ends where it starts with phase 32,768 f(x) y, modulo a turn"
-pub oracle-phase : (n : ℕ) (f : ℕ → ℕ) (x y : ℕ) → n ≤ 8 → x < 2 ^ n → y < 2 → f x < 2 → totalFrom (construction n f) (x + y * 2 ^ n) ≈ 32768 * f x * y
+-- from state x + y 2^n the phase is 32,768 f(x) y, modulo a turn
+pub oracle-phase : (n : ℕ) (f : ℕ → ℕ) (x y : ℕ) → n ≤ 14 → x < 2 ^ n → y < 2 → f x < 2 → totalFrom (construction n f) (x + y * 2 ^ n) ≈ 32768 * f x * y
 oracle-phase n f x zero small hx hy hf = subst (λ (s : ℕ). totalFrom (construction n f) s ≈ 32768 * f x * 0) (let e : x ≡ x + 0 * 2 ^ n = omega arith in e) (phase-low n f x small hx ≈∙ ≈-of (sym (mul-zero (32768 * f x))))
 oracle-phase n f x (suc zero) small hx hy hf = subst (λ (s : ℕ). totalFrom (construction n f) s ≈ 32768 * f x * 1) (let e : 2 ^ n + x ≡ x + 1 * 2 ^ n = omega arith in e) (oracle-high n f x small hx hf ≈∙ ≈-of (sym (mul-one (32768 * f x))))
 oracle-phase n f x (suc (suc y)) small hx hy hf = absurd (omega arith)
+
+start-below : (n x y : ℕ) → x < 2 ^ n → y < 2 → x + y * 2 ^ n < 2 ^ (n + 1)
+start-below n x y hx hy = omega (arith, digits-lt {q = y} {m = 2} {r = x} {c = 2 ^ n} hy hx, pow-add 2 n 1)
+
+-- a run from x + y 2^n, for every n at which a quarter turn can be split into 2^n angles
+pub construction-run : (n : ℕ) (f : ℕ → ℕ) (x y : ℕ) → n ≤ 14 → x < 2 ^ n → y < 2 → f x < 2
+    → (endFrom (construction n f) (x + y * 2 ^ n) ≡ x + y * 2 ^ n) × (phaseFrom (construction n f) (x + y * 2 ^ n) ≡ 32768 * f x * y % 65536)
+construction-run n f x y few hx hy hf = (construction-ends n f (x + y * 2 ^ n) (start-below n x y hx hy), oracle-phase n f x y few hx hy hf .alike)

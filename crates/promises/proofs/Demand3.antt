@@ -1,10 +1,10 @@
--- The third demand: of any two well-formed circuits, and of a circuit and a table, `compare-same`, `compare-all-same`, `compare-named`, `judge-same`, `judge-all-same` and `judge-named`
+-- The third demand: of any two well-formed circuits, and of a circuit and a table, `compare-either` and `judge-either`
 -- of the file Verdicts; here, of the circuits that are built and folded.
 use Prim.Native.Nat.{ℕ, zero, suc, _+_, _*_, _/_, _%_, _^_, _<_, _≤_}
 use native.Mathlib.Nat.{mod-eq-of-lt, div-add-mod', mod-lt, add-comm, add-mul-mod-self-right, add-mul-div-right, div-eq-of-lt}
 use native.Mathlib.Omega.{arith}
 use mathlib.Core.Path.{_≡_, refl, sym, ap, subst, subst₂, _∙_}
-use mathlib.Core.Logic.{_⊎_, inl, inr}
+use mathlib.Core.Logic.{inl, inr}
 use mathlib.Core.List.{List}
 use lib.ListN.{length}
 use lib.Pow.{pow-pos, pow-add, shr-lt}
@@ -15,33 +15,70 @@ use Rattle.table.proofs.Callers.{good-variables}
 use Rattle.running.specs.Run.{endFrom, phaseFrom}
 use Rattle.circuit.specs.File.{wiresOf, gatesOf, fileChecks}
 use Rattle.circuit.specs.Bytes.{Bytes}
+use Rattle.circuit.proofs.Callers.{passes-anywhere}
 use Rattle.circuit.proofs.FileBytes.{file-bytes}
 use Rattle.build.specs.Construction.{construction, builtFile}
-use Rattle.build.proofs.Files.{built-passes, built-wires, built-run, few-gates}
+use Rattle.build.proofs.Files.{built-passes, built-wires, built-gates, few-gates}
+use Rattle.build.proofs.Oracle.{construction-run}
 use Rattle.build.proofs.Circuits.{sound-construction}
 use Rattle.fold.specs.Fold.{foldedFile}
-use Rattle.fold.proofs.Files.{same-wires, folded-passes, file-end, file-phase}
+use Rattle.fold.proofs.Files.{same-wires, folded-passes, file-end, file-phase, file-twice}
 use Rattle.verdict.specs.declared.Verdict.the-variants.{Same, Different}
 use Rattle.verdict.specs.declared.Compared.{Compared}
 use Rattle.verdict.specs.declared.Compared.the-variants.{Found}
-use Rattle.verdict.specs.Verdicts.{circuit, ideal, verdict}
+use Rattle.verdict.specs.Verdicts.{circuit, ideal, Agree}
 use Rattle.verdict.specs.Judging.{Compares, Judges}
-use Rattle.verdict.proofs.Lowest.{Agree}
-use Rattle.verdict.proofs.Callers.{compare-passes, judge-gives, judge-passes}
-use Rattle.promises.proofs.Verdicts.{compare-all-same, judge-same, judge-all-same, Parted, verdict-either}
+use Rattle.verdict.proofs.Callers.{compare-passes, judge-passes}
+use Rattle.promises.specs.Demands.{ThirdDemand, foldings}
+use Rattle.promises.proofs.Verdicts.{compare-all-same, judge-same, judge-all-same, judge-either}
 use Rattle.promises.proofs.Tables.{tables-same}
 
--- "A folded circuit is always the same as its original."
-pub folded-is-same : (f : List ℕ) → Bytes f → outcome (fileChecks 0 f) ≡ passed → (work : List ℕ) → 2 ^ wiresOf f ≤ length work → (c : Compared) (after : List ℕ)
-    → Compares f (foldedFile f) work c after → c ≡ Found Same
-folded-is-same f b p work room c after m =
-    compare-all-same f (foldedFile f) work c after m (compare-passes f (foldedFile f) work p (folded-passes 0 f b p 1) (sym (same-wires f)) room)
-    (λ x h. record { ends = sym (file-end 0 f b p x); phases = sym (file-phase 0 f b p x) })
+-- ---- a folded circuit and its original
+
+-- a file that does on the same wires what f does
+record Like (f g : List ℕ) : Type 0 where
+  passes : (side : ℕ) → outcome (fileChecks side g) ≡ passed
+  wires : wiresOf g ≡ wiresOf f
+  runs : (x : ℕ) → Agree (circuit (gatesOf g)) (circuit (gatesOf f)) x
+
+module _ (f : List ℕ) (b : Bytes f) (good : outcome (fileChecks 0 f) ≡ passed) where
+  like-folded : Like f (foldedFile f)
+  like-folded = record { passes = folded-passes 0 f b good; wires = same-wires f; runs = λ x. record { ends = file-end 0 f b good x; phases = file-phase 0 f b good x } }
+
+  -- from the first folding on nothing changes
+  folded-once : (k : ℕ) → foldings (suc k) f ≡ foldedFile f
+  folded-once zero = refl
+  folded-once (suc k) = ap foldedFile (folded-once k) ∙ file-twice 0 f b good
+
+  like-foldings : (k : ℕ) → Like f (foldings k f)
+  like-foldings zero = record { passes = λ side. passes-anywhere 0 side f good; wires = refl; runs = λ x. record { ends = refl; phases = refl } }
+  like-foldings (suc k) = rw (folded-once k) like-folded
+
+  -- however often each side is folded
+  pub foldings-are-same : (j k : ℕ) (work : List ℕ) → 2 ^ wiresOf f ≤ length work → (c : Compared) (after : List ℕ) → Compares (foldings j f) (foldings k f) work c after → c ≡ Found Same
+  foldings-are-same j k work room c after m =
+      let p = like-foldings j in
+      let q = like-foldings k in
+      compare-all-same (foldings j f) (foldings k f) work c after m
+      (compare-passes (foldings j f) (foldings k f) work (p .passes 0) (q .passes 1) (p .wires ∙ sym (q .wires)) (subst (λ (w : ℕ). 2 ^ w ≤ length work) (sym (p .wires)) room))
+      (λ x h. record { ends = p .runs x .ends ∙ sym (q .runs x .ends); phases = p .runs x .phases ∙ sym (q .runs x .phases) })
+
+  -- "A folded circuit is always the same as its original."
+  pub folded-is-same : (work : List ℕ) → 2 ^ wiresOf f ≤ length work → (c : Compared) (after : List ℕ) → Compares f (foldedFile f) work c after → c ≡ Found Same
+  folded-is-same = foldings-are-same 0 1
+
+  -- the folded circuit first
+  pub original-is-same : (work : List ℕ) → 2 ^ wiresOf f ≤ length work → (c : Compared) (after : List ℕ) → Compares (foldedFile f) f work c after → c ≡ Found Same
+  original-is-same = foldings-are-same 1 0
+
+  -- two foldings of it
+  pub two-foldings-are-same : (work : List ℕ) → 2 ^ wiresOf f ≤ length work → (c : Compared) (after : List ℕ) → Compares (foldedFile f) (foldedFile f) work c after → c ≡ Found Same
+  two-foldings-are-same = foldings-are-same 1 1
 
 -- ---- the oracle of its table
 
 -- a state of n + 1 wires is x + y 2^n
-split-state : (n s : ℕ) → s < 2 ^ (n + 1) → s ≡ s % 2 ^ n + bit s n * 2 ^ n
+pub split-state : (n s : ℕ) → s < 2 ^ (n + 1) → s ≡ s % 2 ^ n + bit s n * 2 ^ n
 split-state n s h =
     let q : s / 2 ^ n < 2 = shr-lt {n = s} 1 n (subst (λ (m : ℕ). s < 2 ^ m) (add-comm n 1) h) in
     sym (div-add-mod' s (2 ^ n)) ∙ add-comm (s / 2 ^ n * 2 ^ n) (s % 2 ^ n) ∙ ap (λ (y : ℕ). s % 2 ^ n + y * 2 ^ n) (let e : s / 2 ^ n ≡ s / 2 ^ n % 2 = omega arith in e)
@@ -50,6 +87,15 @@ half-turns : (a b : ℕ) → a < 2 → b < 2 → 32768 * a * b % 65536 ≡ 32768
 half-turns zero b h k = omega arith
 half-turns (suc zero) b h k = omega arith
 half-turns (suc (suc a)) b h k = absurd (omega arith)
+
+-- the construction for f does what f's ideal does, for every n at which a quarter turn can be split into 2^n angles
+pub construction-agrees : (n : ℕ) (f : ℕ → ℕ) → n ≤ 14 → ((x : ℕ) → f x < 2) → (s : ℕ) → s < 2 ^ (n + 1) → Agree (circuit (construction n f)) (ideal n f) s
+construction-agrees n f few value s h =
+    let x = s % 2 ^ n in
+    let y = bit s n in
+    let r = construction-run n f x y few (mod-lt s (pow-pos n)) (omega arith) (value x) in
+    let e = split-state n s h in
+    record { ends = ap (endFrom (construction n f)) e ∙ r .0 ∙ sym e; phases = ap (phaseFrom (construction n f)) e ∙ r .1 ∙ half-turns (f x) y (value x) (omega arith) }
 
 module _ (n : ℕ) (t : List ℕ) (good : outcome (tableChecks n t) ≡ passed) where
   some : 0 < n
@@ -60,14 +106,7 @@ module _ (n : ℕ) (t : List ℕ) (good : outcome (tableChecks n t) ≡ passed) 
 
   pub built-agrees : (s : ℕ) → s < 2 ^ (n + 1) → Agree (circuit (gatesOf (builtFile n t))) (ideal n (valueAt t)) s
   built-agrees s h =
-      let x = s % 2 ^ n in
-      let y = bit s n in
-      let r = built-run n t some few x y (mod-lt s (pow-pos n)) (omega arith) in
-      let e = split-state n s h in
-      record {
-        ends = ap (endFrom (gatesOf (builtFile n t))) e ∙ r .0 ∙ sym e;
-        phases = ap (phaseFrom (gatesOf (builtFile n t))) e ∙ r .1 ∙ half-turns (valueAt t x) y (omega arith) (omega arith);
-      }
+      subst (λ gs. Agree (circuit gs) (ideal n (valueAt t)) s) (sym (built-gates n t some few)) (construction-agrees n (valueAt t) (omega (arith, few)) (λ x. omega arith) s h)
 
   -- "For every table of 1 to 8 variables the built circuit .. is judged to be that table's oracle"
   pub built-is-oracle : (work : List ℕ) → 2 ^ (n + 1) ≤ length work → (c : Compared) (after : List ℕ) → Judges n t (builtFile n t) work c after → c ≡ Found Same
@@ -124,16 +163,11 @@ module _ (n : ℕ) (t : List ℕ) (good : outcome (tableChecks n t) ≡ passed) 
 
     different : (f : List ℕ) → outcome (fileChecks 0 f) ≡ passed → wiresOf f ≡ n + 1 → (work : List ℕ) → 2 ^ (n + 1) ≤ length work → (c : Compared) (after : List ℕ)
         → Judges n u f work c after → (c ≡ Found Same → ⊥) → IsDifferent c
-    different f p w work room c after m no-other = by (verdict-either (wiresOf f) (circuit (gatesOf f)) (ideal n (valueAt u)))
+    different f p w work room c after m no-other = by (judge-either n u f work c after m good′ p w (subst (λ (k : ℕ). 2 ^ k ≤ length work) (sym w) room))
       where
-        given : c ≡ Found (verdict (wiresOf f) (circuit (gatesOf f)) (ideal n (valueAt u)))
-        given = judge-gives n u f work c after m (judge-passes n u f work good′ p w (subst (λ (k : ℕ). 2 ^ k ≤ length work) (sym w) room))
-
-        by : ((verdict (wiresOf f) (circuit (gatesOf f)) (ideal n (valueAt u)) ≡ Same) × ((x : ℕ) → x < 2 ^ wiresOf f → Agree (circuit (gatesOf f)) (ideal n (valueAt u)) x))
-            ⊎ Parted (wiresOf f) (circuit (gatesOf f)) (ideal n (valueAt u)) (verdict (wiresOf f) (circuit (gatesOf f)) (ideal n (valueAt u)))
-            → IsDifferent c
-        by (inl e) = absurd (no-other (given ∙ ap Found (e .0)))
-        by (inr d) = (d .state, d .first, d .second, d .phase, given ∙ ap Found (d .answer))
+        by : ThirdDemand (wiresOf f) (circuit (gatesOf f)) (ideal n (valueAt u)) c → IsDifferent c
+        by (inl e) = absurd (no-other (e .same))
+        by (inr d) = (d .state, d .first, d .second, d .phase, d .different)
 
     pub built-is-different : (work : List ℕ) → 2 ^ (n + 1) ≤ length work → (c : Compared) (after : List ℕ) → Judges n u (builtFile n t) work c after → IsDifferent c
     built-is-different work room c after m = different (builtFile n t) (built-passes n t some few 0) (built-wires n t some few) work room c after m (built-is-no-other work c after m)

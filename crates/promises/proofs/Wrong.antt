@@ -37,7 +37,7 @@ use Rattle.oracle_listing.specs.Oracle.{oracleChecks}
 use Rattle.oracle_listing.proofs.Callers.{room-for-text}
 use Rattle.promises.specs.Demands.{Refuses}
 use Rattle.promises.specs.Cases.{builtHere, empty, cases}
-use Rattle.promises.specs.Wrong.{Unacceptable, checking, transforming, reading, running, counting, building, folding, comparing, judging, listing, listingOracle, RefusesEverything, AlwaysFinds, LeavesBuffer, Copies, firstMask, firstGroup, FoldsFirstGroup, AlwaysScores}
+use Rattle.promises.specs.Wrong.{Unacceptable, checking, transforming, reading, running, counting, building, folding, comparing, judging, listing, listingOracle, RefusesEverything, AlwaysFinds, LeavesBuffer, Copies, firstMask, firstGroup, FoldsFirstGroup, AlwaysScores, AlwaysScoresBefore, AlwaysScoresAfter}
 use Rattle.promises.proofs.OneAnswer.{one-count, one-build, one-fold, one-comparison, one-judgement}
 use Rattle.promises.proofs.Cases.{cases-hold}
 
@@ -208,3 +208,20 @@ one-counted = refl
 pub invented-score : (s : ℕ) → Unacceptable counting (AlwaysScores s)
 invented-score zero = record { input = one-phase; fails = λ a x e m. let q : Gates (e .0) (e .1) 0 ≡ Gates 0 1 1 = sym (e .2) ∙ one-count one-phase a _ m one-counted in let z : _≡_ {A = ℕ} 0 1 = cc in omega arith }
 invented-score (suc s) = record { input = empty; fails = λ a x e m. let q : Gates (e .0) (e .1) (suc s) ≡ Gates 0 0 0 = sym (e .2) ∙ one-count empty a _ m none-counted in let z : suc s ≡ 0 = cc in omega arith }
+
+-- and folding's scores: both are 1 for the one phase gate, 0 for no gate
+one-folded : Folds one-phase (replicate 12 0) (File 12 1 1) one-phase
+unfolding one-phase outcome fileOf bytesOf decoded firstBad gatesFrom foldedFrom masksFrom sumMet score
+one-folded = record { says = refl; leaves = refl }
+
+none-folded : Folds empty (replicate 8 0) (File 8 0 0) empty
+unfolding outcome fileOf bytesOf firstBad gatesFrom foldedFrom score
+none-folded = record { says = refl; leaves = refl }
+
+pub invented-score-before : (s : ℕ) → Unacceptable folding (AlwaysScoresBefore s)
+invented-score-before zero = record { input = (one-phase, replicate 12 0); fails = λ a x e m. let q : File (e .0) 0 (e .1) ≡ File 12 1 1 = sym (e .2) ∙ one-fold one-phase (replicate 12 0) a _ x _ m one-folded .0 in let z : _≡_ {A = ℕ} 0 1 = cc in omega arith }
+invented-score-before (suc s) = record { input = (empty, replicate 8 0); fails = λ a x e m. let q : File (e .0) (suc s) (e .1) ≡ File 8 0 0 = sym (e .2) ∙ one-fold empty (replicate 8 0) a _ x _ m none-folded .0 in let z : suc s ≡ 0 = cc in omega arith }
+
+pub invented-score-after : (s : ℕ) → Unacceptable folding (AlwaysScoresAfter s)
+invented-score-after zero = record { input = (one-phase, replicate 12 0); fails = λ a x e m. let q : File (e .0) (e .1) 0 ≡ File 12 1 1 = sym (e .2) ∙ one-fold one-phase (replicate 12 0) a _ x _ m one-folded .0 in let z : _≡_ {A = ℕ} 0 1 = cc in omega arith }
+invented-score-after (suc s) = record { input = (empty, replicate 8 0); fails = λ a x e m. let q : File (e .0) (e .1) (suc s) ≡ File 8 0 0 = sym (e .2) ∙ one-fold empty (replicate 8 0) a _ x _ m none-folded .0 in let z : suc s ≡ 0 = cc in omega arith }

@@ -9,7 +9,7 @@ use lib.IntN.{ℤ}
 use Rattle.numbers.specs.Search.{least}
 use Rattle.refusal.specs.Contract.{Said}
 use Rattle.table.specs.declared.Checked.{Checked}
-use Rattle.table.specs.Table.{Checks}
+use Rattle.table.specs.Table.{valueAt, Checks}
 use Rattle.spectrum.specs.declared.Transformed.{Transformed}
 use Rattle.spectrum.specs.Spectrum.{Transforms}
 use Rattle.circuit.specs.declared.Reading.{Reading}
@@ -24,6 +24,7 @@ use Rattle.running.specs.Masks.{ownMasks, masksAfter}
 use Rattle.build.specs.declared.Built.{Built}
 use Rattle.build.specs.Construction.{Builds}
 use Rattle.fold.specs.declared.Folded.{Folded}
+use Rattle.fold.specs.declared.Folded.the-variants.{File}
 use Rattle.running.specs.Groups.{maskAt}
 use Rattle.fold.specs.Fold.{becomes, Folds}
 use Rattle.verdict.specs.declared.Verdict.{Verdict}
@@ -31,7 +32,7 @@ use Rattle.verdict.specs.declared.Verdict.the-variants.{Same, Different}
 use Rattle.verdict.specs.declared.Compared.{Compared}
 use Rattle.verdict.specs.declared.Compared.the-variants.{Found}
 use Rattle.numbers.specs.Turn.{difference}
-use Rattle.verdict.specs.Verdicts.{Side, circuit, part}
+use Rattle.verdict.specs.Verdicts.{Side, circuit, ideal, part}
 use Rattle.verdict.specs.Judging.{Compares, Judges}
 use Rattle.listing.specs.declared.Listed.{Listed}
 use Rattle.listing.specs.Listing.{Lists}
@@ -123,6 +124,17 @@ verdictAmong k a b =
 abbrev pub TriesFirst : ℕ → List ℕ × List ℕ × List ℕ → Compared → List ℕ → Type 0
 TriesFirst k input answer after = answer ≡ Found (verdictAmong k (circuit (gatesOf (input .0))) (circuit (gatesOf (input .1))))
 
+-- the same of judge: the inputs are n, the table, the file and the work slice
+abbrev pub JudgesFirst : ℕ → ℕ × List ℕ × List ℕ × List ℕ → Compared → List ℕ → Type 0
+JudgesFirst k input answer after = answer ≡ Found (verdictAmong k (circuit (gatesOf (input .2))) (ideal (input .0) (valueAt (input .1))))
+
 -- "an invented score": whatever the file
 abbrev pub AlwaysScores : ℕ → List ℕ → Counted → List ℕ → Type 0
 AlwaysScores s input answer after = (c : ℕ) × (p : ℕ) × (answer ≡ Gates c p s)
+
+-- the same of folding's two scores
+abbrev pub AlwaysScoresBefore : ℕ → List ℕ × List ℕ → Folded → List ℕ → Type 0
+AlwaysScoresBefore s input answer after = (l : ℕ) × (b : ℕ) × (answer ≡ File l s b)
+
+abbrev pub AlwaysScoresAfter : ℕ → List ℕ × List ℕ → Folded → List ℕ → Type 0
+AlwaysScoresAfter s input answer after = (l : ℕ) × (b : ℕ) × (answer ≡ File l b s)

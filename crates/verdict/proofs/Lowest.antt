@@ -9,7 +9,7 @@ use Rattle.numbers.specs.Search.{least}
 use Rattle.numbers.proofs.Search.{least-found}
 use Rattle.verdict.specs.declared.Verdict.the-variants.{Same, Different}
 use Rattle.numbers.specs.Turn.{difference}
-use Rattle.verdict.specs.Verdicts.{Side, part, verdictAt, verdict}
+use Rattle.verdict.specs.Verdicts.{Side, part, verdictAt, verdict, Agree, Named}
 
 -- p is the lowest below n at which A fails, or n where it holds at all of them
 pub record Lowest (A : ℕ → Type 0) (n p : ℕ) : Type 0 where
@@ -36,11 +36,6 @@ pub lowest-found : (test : ℕ → Bool) (A : ℕ → Type 0) → ((k : ℕ) →
 lowest-found test A holds fails n =
     let r = least-found test n 0 in
     record { within = omega (arith, r .most); before = λ k h. holds k (r .before k (omega arith) h); there = λ h. fails (least test n 0) (r .there (omega arith)) }
-
--- a start ends alike under both sides, with the same phase
-pub record Agree (a b : Side) (x : ℕ) : Type 0 where
-  pub ends : a .end x ≡ b .end x
-  pub phases : a .phase x ≡ b .phase x
 
 module _ (a b : Side) where
   agree : (x : ℕ) → part a b x ≡ false → Agree a b x
@@ -94,19 +89,11 @@ module _ (a b : Side) where
         verdict-found (2 ^ w) (record { within = omega arith; before = h; there = λ l. absurd (omega arith) }) ∙ at-same (2 ^ w) (omega arith)
 
     -- Different names the lowest start that parts, and how
-    pub record Named (s e f p : ℕ) : Type 0 where
-      pub below : s < 2 ^ w
-      pub parts : Agree a b s → ⊥
-      pub before : (x : ℕ) → x < s → Agree a b x
-      pub first-end : e ≡ a .end s
-      pub second-end : f ≡ b .end s
-      pub phase : p ≡ difference (a .phase s) (b .phase s)
-
-    pub different-named : (s e f p : ℕ) → verdict w a b ≡ Different s e f p → Named s e f p
+    pub different-named : (s e f p : ℕ) → verdict w a b ≡ Different s e f p → Named a b w s e f p
     unfolding verdict start
     different-named s e f p v = by (decLt start (2 ^ w))
       where
-        by : Dec (start < 2 ^ w) → Named s e f p
+        by : Dec (start < 2 ^ w) → Named a b w s e f p
         by (yes l) =
             let z : Different start (a .end start) (b .end start) (difference (a .phase start) (b .phase start)) ≡ Different s e f p = sym (at-different start l) ∙ v in
             let q : start ≡ s = cc in
@@ -116,6 +103,6 @@ module _ (a b : Side) where
               before = λ x h. found .before x (omega arith);
               first-end = cc;
               second-end = cc;
-              phase = cc;
+              how = cc;
             }
         by (no l) = let z : Same ≡ Different s e f p = sym (at-same start (omega arith)) ∙ v in let y : _≡_ {A = ℕ} 0 1 = cc in absurd (omega arith)

@@ -1,5 +1,6 @@
 -- 01, "Coefficients and verdict": two sides, and the lowest start at which they part.
-use Prim.Native.Nat.{ℕ, _*_, _%_, _^_}
+use Prim.Native.Nat.{ℕ, _*_, _%_, _^_, _<_}
+use mathlib.Core.Path.{_≡_}
 use mathlib.Core.Bool.{Bool, not, _||_, cond}
 use mathlib.Core.List.{List}
 use lib.Dec.{ltb, eqb}
@@ -40,3 +41,17 @@ verdict w a b = verdictAt w a b (least (part a b) (2 ^ w) 0)
 -- "entries 0 to 2^w - 1 of the work slice .. hold first coefficient minus second"
 unfoldable pub differences : ℕ → (ℕ → ℕ) → (ℕ → ℕ) → List ℕ
 differences w c d = list (2 ^ w) (λ s. difference (c s) (d s))
+
+-- the tender's third demand: a start "ends in the same state under both, with the same phase"
+pub record Agree (a b : Side) (x : ℕ) : Type 0 where
+  pub ends : a .end x ≡ b .end x
+  pub phases : a .phase x ≡ b .phase x
+
+-- "it names the lowest starting state where they part, and how"
+pub record Named (a b : Side) (w state first second phase : ℕ) : Type 0 where
+  pub below : state < 2 ^ w
+  pub parts : Agree a b state → ⊥
+  pub before : (x : ℕ) → x < state → Agree a b x
+  pub first-end : first ≡ a .end state
+  pub second-end : second ≡ b .end state
+  pub how : phase ≡ difference (a .phase state) (b .phase state)
