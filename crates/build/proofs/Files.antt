@@ -15,9 +15,10 @@ use Rattle.build.specs.Construction.{minus, construction, builtFile}
 use Rattle.build.proofs.Circuits.{length-parts, length-parts-file, sound-construction}
 use Rattle.build.proofs.Oracle.{construction-run}
 
-count-is : (n : ℕ) (f : ℕ → ℕ) → 0 < n → length (construction n f) + 2 ≡ 2 ^ (n + 2)
+-- "The gates number 2^(n+2) - 2"
+pub construction-count : (n : ℕ) (f : ℕ → ℕ) → 0 < n → length (construction n f) + 2 ≡ 2 ^ (n + 2)
 unfolding construction
-count-is n f = length-parts n (theta n f) (λ v. minus (theta n f v))
+construction-count n f = length-parts n (theta n f) (λ v. minus (theta n f v))
 
 -- "the file is 2^(n+4) bytes"
 pub built-long : (n : ℕ) (t : List ℕ) → 0 < n → length (builtFile n t) ≡ 2 ^ (n + 4)
@@ -26,7 +27,7 @@ built-long n t = length-parts-file n (theta n (valueAt t)) (λ v. minus (theta n
 
 module _ (n : ℕ) (t : List ℕ) (p : 0 < n) (small : n ≤ 8) where
   pub few-gates : length (construction n (valueAt t)) ≤ 2048
-  few-gates = omega (arith, count-is n (valueAt t) p, pow-mono {i = n + 2} {j = 10} (omega arith))
+  few-gates = omega (arith, construction-count n (valueAt t) p, pow-mono {i = n + 2} {j = 10} (omega arith))
 
   -- read accepts it, with n + 1 wires and 2^(n+2) - 2 gates
   pub built-passes : (side : ℕ) → outcome (fileChecks side (builtFile n t)) ≡ passed
@@ -36,7 +37,7 @@ module _ (n : ℕ) (t : List ℕ) (p : 0 < n) (small : n ≤ 8) where
   built-wires = wires-written (n + 1) (construction n (valueAt t))
 
   pub built-count : countOf (builtFile n t) ≡ 2 ^ (n + 2) - 2
-  built-count = count-written (n + 1) (construction n (valueAt t)) ∙ omega (arith, count-is n (valueAt t) p)
+  built-count = count-written (n + 1) (construction n (valueAt t)) ∙ omega (arith, construction-count n (valueAt t) p)
 
   pub built-gates : gatesOf (builtFile n t) ≡ construction n (valueAt t)
   built-gates = list-written (n + 1) (construction n (valueAt t)) (sound-construction n (valueAt t))

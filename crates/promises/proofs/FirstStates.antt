@@ -6,26 +6,32 @@ use native.Mathlib.Omega.{arith}
 use mathlib.Core.Path.{_≡_, refl, sym, ap, _∙_}
 use mathlib.Core.Bool.{cond}
 use mathlib.Core.List.{List, [], _∷_, _++_}
-use borrow.Author.Tests.{le-ltb, ne-eqb}
+use borrow.Author.Tests.{lt-ltb, le-ltb, ne-eqb}
 use lib.Dec.{ltb, eqb}
-use lib.ListN.{replicate}
+use lib.ListN.{replicate, length-replicate}
 use lib.Pow.{pow-add}
 use Rattle.numbers.specs.Bits.{bit}
 use Rattle.numbers.specs.Sums.{sum}
+use Rattle.numbers.specs.Turn.{difference}
+use Rattle.refusal.specs.Checks.{passed, outcome}
 use Rattle.table.specs.Table.{valueAt}
 use Rattle.circuit.specs.Gates.{bytesOf, gatesFrom}
-use Rattle.circuit.specs.File.{wiresOf, gatesOf, fileOf}
-use Rattle.circuit.proofs.Files.{wires-written, list-written}
-use Rattle.running.specs.Run.{endFrom, totalFrom}
+use Rattle.circuit.specs.Working.{AllSound}
+use Rattle.circuit.specs.File.{wiresOf, gatesOf, fileChecks, fileOf}
+use Rattle.circuit.proofs.Files.{wires-written, list-written, written-passes}
+use Rattle.running.specs.Run.{endFrom, phaseFrom, totalFrom}
 use Rattle.build.specs.Construction.{construction}
 use Rattle.build.proofs.Circuits.{sound-construction}
+use Rattle.build.proofs.Files.{construction-count}
 use Rattle.verdict.specs.declared.Verdict.{Verdict}
-use Rattle.verdict.specs.declared.Verdict.the-variants.{Same}
+use Rattle.verdict.specs.declared.Verdict.the-variants.{Same, Different}
+use Rattle.verdict.specs.declared.Compared.{Compared}
 use Rattle.verdict.specs.declared.Compared.the-variants.{Found}
-use Rattle.verdict.specs.Verdicts.{Side, circuit, ideal, Agree}
-use Rattle.verdict.proofs.Lowest.{lowest-part, Lowest}
+use Rattle.verdict.specs.Verdicts.{Side, circuit, ideal, verdict, Agree}
+use Rattle.verdict.specs.Judging.{Compares, Judges}
+use Rattle.verdict.proofs.Lowest.{Lowest, lowest-part, verdict-found}
+use Rattle.verdict.proofs.Callers.{compare-gives, compare-passes, judge-gives, judge-passes}
 use Rattle.promises.specs.Wrong.{Unacceptable, comparing, judging, verdictAmong, TriesFirst, JudgesFirst}
-use Rattle.promises.proofs.Verdicts.{compare-same, judge-same}
 use Rattle.promises.proofs.Demand3.{split-state, construction-agrees}
 
 past-same : (x k : ℕ) (v : Verdict) → k ≤ x → cond (ltb x k) v Same ≡ Same
@@ -42,8 +48,12 @@ among-same a b n k agrees h = past-same _ k _ (none _ (lowest-part a b k))
         by (yes p) = absurd (l .there p (agrees x (omega arith)))
         by (no p) = omega arith
 
+-- where only the last of 2^w states parts, the verdict names it
+verdict-last : (w l : ℕ) (a b : Side) → suc l ≡ 2 ^ w → ((x : ℕ) → x < l → Agree a b x) → (Agree a b l → ⊥) → verdict w a b ≡ Different l (a .end l) (b .end l) (difference (a .phase l) (b .phase l))
+verdict-last w l a b e agrees parts = verdict-found a b w l (record { within = omega arith; before = agrees; there = λ h. parts }) ∙ rw (lt-ltb l (2 ^ w) (omega arith))
+
 -- a circuit of no gates turns nothing
-nothing : ℕ → List ℕ
+pub nothing : ℕ → List ℕ
 nothing w = fileOf w []
 
 still : Side
@@ -52,6 +62,14 @@ still = record { end = λ s. s; phase = λ s. 0 }
 nothing-does : (w s : ℕ) → Agree (circuit (gatesOf (nothing w))) still s
 unfolding nothing still fileOf bytesOf gatesFrom endFrom totalFrom
 nothing-does w s = record { ends = refl; phases = refl }
+
+nothing-passes : (w side : ℕ) → 1 ≤ w → w ≤ 10 → outcome (fileChecks side (nothing w)) ≡ passed
+unfolding nothing AllSound
+nothing-passes w side some few = written-passes w [] side some few tt (omega arith)
+
+nothing-wires : (w : ℕ) → wiresOf (nothing w) ≡ w
+unfolding nothing
+nothing-wires w = wires-written w []
 
 -- where f is 0 but at the last x, its ideal turns the last state alone
 module _ (n : ℕ) (f : ℕ → ℕ) (zeros : (x : ℕ) → suc x < 2 ^ n → f x ≡ 0) where
@@ -84,8 +102,16 @@ unfolding all-nine
 nine-zero x h = rw (ne-eqb x 511 (λ e. omega arith))
 
 -- 10 wires and 2,046 gates
-oracle : List ℕ
+pub oracle : List ℕ
 oracle = fileOf 10 (construction 9 all-nine)
+
+oracle-passes : (side : ℕ) → outcome (fileChecks side oracle) ≡ passed
+unfolding oracle
+oracle-passes side = written-passes 10 (construction 9 all-nine) side (omega arith) (omega arith) (sound-construction 9 all-nine) (omega (arith, construction-count 9 all-nine (omega arith)))
+
+oracle-wires : wiresOf oracle ≡ 10
+unfolding oracle
+oracle-wires = wires-written 10 (construction 9 all-nine)
 
 oracle-agrees : (s : ℕ) → s < 1024 → Agree (circuit (gatesOf oracle)) (ideal 9 all-nine) s
 unfolding oracle
@@ -98,27 +124,40 @@ agrees s h =
     let n = nothing-does 10 s in
     record { ends = o .ends ∙ i .ends ∙ sym (n .ends); phases = o .phases ∙ i .phases ∙ sym (n .phases) }
 
+turned-last : phaseFrom (gatesOf oracle) 1023 ≡ 32768
+unfolding all-nine
+turned-last = oracle-agrees 1023 (omega arith) .phases
+
 parts-last : Agree (circuit (gatesOf oracle)) (circuit (gatesOf (nothing 10))) 1023 → ⊥
-unfolding all-nine still
+unfolding still
 parts-last a =
-    let e : _≡_ {A = ℕ} 32768 0 = sym (oracle-agrees 1023 (omega arith) .phases) ∙ a .phases ∙ nothing-does 10 1023 .phases in
+    let e : _≡_ {A = ℕ} 32768 0 = sym turned-last ∙ a .phases ∙ nothing-does 10 1023 .phases in
     omega arith
+
+-- the two pass every check, and part at the last state alone
+pub last-state : (answer : Compared) (after : List ℕ) → Compares oracle (nothing 10) (replicate 1024 0) answer after → answer ≡ Found (Different 1023 1023 1023 32768)
+unfolding still
+last-state answer after m =
+    let a = circuit (gatesOf oracle) in
+    let b = circuit (gatesOf (nothing 10)) in
+    compare-gives oracle (nothing 10) (replicate 1024 0) answer after m
+    (compare-passes oracle (nothing 10) (replicate 1024 0) (oracle-passes 0) (nothing-passes 10 1 (omega arith) (omega arith)) (oracle-wires ∙ sym (nothing-wires 10)) (omega (arith, ap (2 ^_) oracle-wires, length-replicate {A = ℕ} 1024 0)))
+    ∙ ap (λ (w : ℕ). Found (verdict w a b)) oracle-wires ∙ ap Found (verdict-last 10 1023 a b refl agrees parts-last)
+    ∙ rw (oracle-agrees 1023 (omega arith) .ends, nothing-does 10 1023 .ends, turned-last, nothing-does 10 1023 .phases)
 
 -- whoever tries at most 1,023 of the 1,024 states
 pub first-states-only : (k : ℕ) → k ≤ 1023 → Unacceptable comparing (TriesFirst k)
-unfolding oracle
 first-states-only k h = record {
   input = (oracle, nothing 10, replicate 1024 0);
   fails = λ a x e m.
-      parts-last (compare-same oracle (nothing 10) (replicate 1024 0) a x m (e ∙ ap Found (among-same (circuit (gatesOf oracle)) (circuit (gatesOf (nothing 10))) 1023 k agrees h)) 1023 wide);
+      let q : Same ≡ Different 1023 1023 1023 32768 = cc (sym (among-same (circuit (gatesOf oracle)) (circuit (gatesOf (nothing 10))) 1023 k agrees h), sym e ∙ last-state a x m) in
+      let z : _≡_ {A = ℕ} 0 1 = cc in
+      omega arith;
 }
-  where
-    wide : 1023 < 2 ^ wiresOf oracle
-    wide = omega (arith, ap (2 ^_) (wires-written 10 (construction 9 all-nine)))
 
 -- ---- judge: the circuit of no gates, and the table of 8 variables that is 1 where all of them are
 
-all-eight : List ℕ
+pub all-eight : List ℕ
 all-eight = replicate 31 0 ++ (0x80 ∷ [])
 
 -- a sum is 0 only where each term is
@@ -146,14 +185,23 @@ judged-parts a =
     let e : _≡_ {A = ℕ} 0 32768 = sym (nothing-does 9 511 .phases) ∙ a .phases in
     omega arith
 
+-- the call passes every check, and the two part at the last state alone
+pub last-state-judged : (answer : Compared) (after : List ℕ) → Judges 8 all-eight (nothing 9) (replicate 512 0) answer after → answer ≡ Found (Different 511 511 511 32768)
+unfolding all-eight still outcome
+last-state-judged answer after m =
+    let a = circuit (gatesOf (nothing 9)) in
+    let b = ideal 8 (valueAt all-eight) in
+    judge-gives 8 all-eight (nothing 9) (replicate 512 0) answer after m
+    (judge-passes 8 all-eight (nothing 9) (replicate 512 0) refl (nothing-passes 9 0 (omega arith) (omega arith)) (nothing-wires 9) (omega (arith, ap (2 ^_) (nothing-wires 9), length-replicate {A = ℕ} 512 0)))
+    ∙ ap (λ (w : ℕ). Found (verdict w a b)) (nothing-wires 9) ∙ ap Found (verdict-last 9 511 a b refl judged-agrees judged-parts)
+    ∙ rw (nothing-does 9 511 .ends, nothing-does 9 511 .phases)
+
 -- whoever tries at most 511 of the 512 states
 pub first-states-judged : (k : ℕ) → k ≤ 511 → Unacceptable judging (JudgesFirst k)
-unfolding nothing
 first-states-judged k h = record {
   input = (8, all-eight, nothing 9, replicate 512 0);
   fails = λ a x e m.
-      judged-parts (judge-same 8 all-eight (nothing 9) (replicate 512 0) a x m (e ∙ ap Found (among-same (circuit (gatesOf (nothing 9))) (ideal 8 (valueAt all-eight)) 511 k judged-agrees h)) 511 wide);
+      let q : Same ≡ Different 511 511 511 32768 = cc (sym (among-same (circuit (gatesOf (nothing 9))) (ideal 8 (valueAt all-eight)) 511 k judged-agrees h), sym e ∙ last-state-judged a x m) in
+      let z : _≡_ {A = ℕ} 0 1 = cc in
+      omega arith;
 }
-  where
-    wide : 511 < 2 ^ wiresOf (nothing 9)
-    wide = omega (arith, ap (2 ^_) (wires-written 9 []))
