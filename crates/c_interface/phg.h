@@ -95,11 +95,11 @@ void phg_judge(uint8_t n, const uint8_t *table, size_t table_len, const uint8_t 
                uint16_t *work, size_t work_len, uint64_t answer[6]);
 
 /* The OpenQASM 2.0 text of a file to the front of out, with the h lines where wrapped is not 0; no 0 byte ends it.
- * answer[1]: its length, at most 65,632. Refusals: FILE, ROOM. */
+ * answer[1]: its length, at most 65,600. Refusals: FILE, ROOM. */
 void phg_list(const uint8_t *file, size_t file_len, uint8_t wrapped, uint8_t *out, size_t out_len,
               uint64_t answer[6]);
 
-/* A table built, folded and listed, wrapped. answer[1]: the text's length. Refusals: TABLE, ROOM. */
+/* A table built, folded and listed, wrapped. answer[1]: the text's length, at most 65,536. Refusals: TABLE, ROOM. */
 void phg_list_oracle(uint8_t n, const uint8_t *table, size_t table_len, uint8_t *out, size_t out_len,
                      uint64_t answer[6]);
 

@@ -1,1 +1,3 @@
 pub mod Unique
+pub mod Answers
+pub mod Lengths

@@ -4,24 +4,22 @@ use native.Mathlib.Omega.{arith}
 use mathlib.Core.Path.{_≡_, sym, ap, _∙_}
 use mathlib.Core.Bool.{Bool}
 use mathlib.Core.List.{List, [], _∷_, _++_, append-assoc}
-use lib.ListN.{length}
 use Rattle.refusal.specs.Names.{refusal, UNLIKE}
 use Rattle.refusal.specs.Checks.{Check, check, other, outcome, roomCheck}
 use Rattle.refusal.proofs.Outcomes.{parts-pass}
 use Rattle.refusal.proofs.Rooms.{room-suffices}
 use Rattle.table.specs.Table.{tableChecks}
-use Rattle.circuit.specs.File.{wiresOf, gatesOf, fileChecks}
+use Rattle.circuit.specs.File.{wiresOf, fileChecks}
 use Rattle.circuit.specs.Bytes.{Bytes}
-use Rattle.circuit.proofs.Callers.{good-file, few-states}
-use Rattle.circuit.proofs.Files.{file-sound, length-gates, length-file}
+use Rattle.circuit.proofs.Callers.{few-states}
 use Rattle.spectrum.specs.Spectrum.{spectrumChecks}
 use Rattle.spectrum.proofs.Callers.{spectrum-room as spectrum-suffices}
 use Rattle.build.specs.Construction.{buildChecks}
 use Rattle.build.proofs.Callers.{build-room as build-suffices}
-use Rattle.fold.specs.Fold.{folded, foldedFile, foldChecks}
-use Rattle.fold.proofs.Files.{few-gates}
-use Rattle.listing.specs.Listing.{listingOfFile, listChecks}
-use Rattle.listing.proofs.Lengths.{listing-short}
+use Rattle.fold.specs.Fold.{foldChecks}
+use Rattle.fold.proofs.Files.{fold-room as fold-suffices}
+use Rattle.listing.specs.Listing.{listChecks}
+use Rattle.listing.proofs.Callers.{list-room as list-suffices}
 use Rattle.verdict.specs.Judging.{compareChecks, judgeChecks}
 
 module _ (n : ℕ) (t : List ℕ) where
@@ -33,14 +31,10 @@ module _ (n : ℕ) (t : List ℕ) where
 
 module _ (f : List ℕ) (bytes : Bytes f) where
   pub fold-room : outcome (foldChecks f 8201) ≡ outcome (fileChecks 0 f)
-  fold-room = room-suffices (fileChecks 0 f) 8201 (length (foldedFile f)) (λ e. omega (arith, few-gates 0 f bytes e, length-file (wiresOf f) (folded (wiresOf f) (gatesOf f))))
+  fold-room = fold-suffices f bytes 8201 (omega arith)
 
   pub list-room : (wrapped : Bool) → outcome (listChecks wrapped f 65600) ≡ outcome (fileChecks 0 f)
-  list-room wrapped =
-      room-suffices (fileChecks 0 f) 65600 (length (listingOfFile wrapped f))
-      (λ e.
-      let g = good-file 0 f e in
-      omega (arith, g .count, length-gates f bytes g, listing-short wrapped (wiresOf f) (gatesOf f) (g .few) (file-sound f bytes g)))
+  list-room wrapped = list-suffices wrapped f bytes 65600 (omega arith)
 
 -- the work slice
 abbrev unlike : ℕ → ℕ → List Check

@@ -5,15 +5,16 @@ use mathlib.Core.Path.{_≡_, ap, ap₂, _∙_}
 use mathlib.Core.List.{List}
 use lib.ListN.{length}
 use Rattle.refusal.specs.Checks.{passed, outcome}
+use Rattle.refusal.proofs.Rooms.{room-suffices}
 use Rattle.circuit.specs.declared.Gate.{Gate}
 use Rattle.circuit.specs.Working.{AllSound}
 use Rattle.circuit.specs.File.{wiresOf, gatesOf, fileChecks, fileOf}
 use Rattle.running.specs.Run.{endFrom, phaseFrom}
 use Rattle.circuit.specs.Bytes.{Bytes}
 use Rattle.circuit.proofs.Callers.{good-file}
-use Rattle.circuit.proofs.Files.{file-sound, length-gates, wires-written, list-written, written-passes}
+use Rattle.circuit.proofs.Files.{file-sound, length-gates, length-file, wires-written, list-written, written-passes}
 use Rattle.fold.specs.Working.{cnotsOf}
-use Rattle.fold.specs.Fold.{folded, foldedFile}
+use Rattle.fold.specs.Fold.{folded, foldedFile, foldChecks}
 use Rattle.fold.proofs.Folding.{folded-sound, folded-shorter, folded-twice, same-cnots, same-end, same-phase}
 
 pub same-wires : (f : List ℕ) → wiresOf (foldedFile f) ≡ wiresOf f
@@ -33,6 +34,12 @@ module _ (s : ℕ) (f : List ℕ) (bytes : Bytes f) (h : outcome (fileChecks s f
       let g = good-file s f h in
       written-passes (wiresOf f) (folded (wiresOf f) (gatesOf f)) t (g .some) (g .few) (folded-sound (wiresOf f) (gatesOf f) sound) few-gates
 
+  -- it is never longer than the file was
+  pub file-shorter : length (foldedFile f) ≤ length f
+  file-shorter =
+      let g = good-file s f h in
+      omega (arith, length-file (wiresOf f) (folded (wiresOf f) (gatesOf f)), folded-shorter (wiresOf f) (gatesOf f), length-gates f bytes g, g .whole)
+
   pub gates-of-folded : gatesOf (foldedFile f) ≡ folded (wiresOf f) (gatesOf f)
   gates-of-folded = list-written (wiresOf f) (folded (wiresOf f) (gatesOf f)) (folded-sound (wiresOf f) (gatesOf f) sound)
 
@@ -51,3 +58,7 @@ module _ (s : ℕ) (f : List ℕ) (bytes : Bytes f) (h : outcome (fileChecks s f
   file-twice =
       ap₂ (λ (w : ℕ) (gs : List Gate). fileOf w (folded w gs)) (same-wires f) gates-of-folded
       ∙ ap (fileOf (wiresOf f)) (folded-twice (wiresOf f) (gatesOf f))
+
+-- 8,200 bytes are room for every file's folding: only the file can be refused
+pub fold-room : (f : List ℕ) → Bytes f → (room : ℕ) → 8200 ≤ room → outcome (foldChecks f room) ≡ outcome (fileChecks 0 f)
+fold-room f bytes room h = room-suffices (fileChecks 0 f) room (length (foldedFile f)) (λ e. let g = good-file 0 f e in omega (arith, file-shorter 0 f bytes e, g .whole, g .count))

@@ -1,5 +1,6 @@
--- What a caller of `list` knows when it answers and when it refuses; and that no two answers say the same.
-use Prim.Native.Nat.{ℕ}
+-- What a caller of `list` knows when it answers and when it refuses; that no two answers say the same; and how long the text can be.
+use Prim.Native.Nat.{ℕ, _≤_}
+use native.Mathlib.Omega.{arith}
 use mathlib.Core.Path.{_≡_, ap}
 use mathlib.Core.Bool.{Bool}
 use mathlib.Core.List.{List, [], _∷_, _++_}
@@ -7,9 +8,15 @@ use lib.ListN.{length, drop}
 use Rattle.refusal.specs.declared.Refusal.{Refusal}
 use Rattle.refusal.specs.Checks.{passed, refused, outcome}
 use Rattle.refusal.proofs.Contracts.{Distinct, same-refusal, meets-values, meets-refusal}
+use Rattle.refusal.proofs.Rooms.{room-suffices}
+use Rattle.circuit.specs.File.{wiresOf, gatesOf, fileChecks}
+use Rattle.circuit.specs.Bytes.{Bytes}
+use Rattle.circuit.proofs.Callers.{good-file}
+use Rattle.circuit.proofs.Files.{file-sound, length-gates}
 use Rattle.listing.specs.declared.Listed.{Listed}
 use Rattle.listing.specs.declared.Listed.the-variants.{Length, Refused}
 use Rattle.listing.specs.Listing.{listingOfFile, listChecks, listedSays, Lists}
+use Rattle.listing.proofs.Lengths.{listing-short}
 
 module _ (wrapped : Bool) (f before : List ℕ) (a : Listed) (after : List ℕ) (m : Lists wrapped f before a after) where
   abbrev text : List ℕ
@@ -28,3 +35,14 @@ listed-distinct (Length l) (Length m) e = cc
 listed-distinct (Length l) (Refused r) e = cc
 listed-distinct (Refused r) (Length m) e = cc
 listed-distinct (Refused r) (Refused s) e = ap Refused (same-refusal r s e)
+
+-- how long the text of a file can be: 2,048 gates of 32 bytes, and 64 for the rest
+module _ (wrapped : Bool) (f : List ℕ) (bytes : Bytes f) where
+  pub list-short : outcome (fileChecks 0 f) ≡ passed → length (listingOfFile wrapped f) ≤ 65600
+  list-short e =
+      let g = good-file 0 f e in
+      omega (arith, g .count, length-gates f bytes g, listing-short wrapped (wiresOf f) (gatesOf f) (g .few) (file-sound f bytes g))
+
+  -- with that much room only the file can be refused
+  pub list-room : (room : ℕ) → 65600 ≤ room → outcome (listChecks wrapped f room) ≡ outcome (fileChecks 0 f)
+  list-room room h = room-suffices (fileChecks 0 f) room (length (listingOfFile wrapped f)) (λ e. omega (arith, list-short e))

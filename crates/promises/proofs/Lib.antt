@@ -7,3 +7,4 @@ pub mod OneAnswer
 pub mod Cases
 pub mod Wrong
 pub mod FirstStates
+pub mod ForC
