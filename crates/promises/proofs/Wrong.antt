@@ -204,12 +204,7 @@ one-counted : Counts one-phase (Gates 0 1 1)
 unfolding one-phase outcome fileOf bytesOf decoded firstBad gatesFrom cnots phases score
 one-counted = refl
 
--- 0 fails for a circuit of one phase gate that turns, anything else for the empty circuit
-pub invented-score : (s : ℕ) → Unacceptable counting (AlwaysScores s)
-invented-score zero = record { input = one-phase; fails = λ a x e m. let q : Gates (e .0) (e .1) 0 ≡ Gates 0 1 1 = sym (e .2) ∙ one-count one-phase a _ m one-counted in let z : _≡_ {A = ℕ} 0 1 = cc in omega arith }
-invented-score (suc s) = record { input = empty; fails = λ a x e m. let q : Gates (e .0) (e .1) (suc s) ≡ Gates 0 0 0 = sym (e .2) ∙ one-count empty a _ m none-counted in let z : suc s ≡ 0 = cc in omega arith }
-
--- and folding's scores: both are 1 for the one phase gate, 0 for no gate
+-- folding's scores are both 1 for the one phase gate, 0 for no gate
 one-folded : Folds one-phase (replicate 12 0) (File 12 1 1) one-phase
 unfolding one-phase outcome fileOf bytesOf decoded firstBad gatesFrom foldedFrom masksFrom sumMet score
 one-folded = record { says = refl; leaves = refl }
@@ -218,10 +213,27 @@ none-folded : Folds empty (replicate 8 0) (File 8 0 0) empty
 unfolding outcome fileOf bytesOf firstBad gatesFrom foldedFrom score
 none-folded = record { says = refl; leaves = refl }
 
+-- a number that is 1 for one input and 0 for another is no constant
+invented : {Input Answer Entry : Type 0} (Contract : Input → Answer → List Entry → Type 0) (Scores : ℕ → Input → Answer → List Entry → Type 0) (one none : Input)
+    → ((s : ℕ) (a : Answer) (x : List Entry) → Contract one a x → Scores s one a x → s ≡ 1) → ((s : ℕ) (a : Answer) (x : List Entry) → Contract none a x → Scores s none a x → s ≡ 0)
+    → (s : ℕ) → Unacceptable Contract (Scores s)
+invented Contract Scores one none is-one is-none zero = record { input = one; fails = λ a x e m. let z : _≡_ {A = ℕ} 0 1 = is-one 0 a x m e in omega arith }
+invented Contract Scores one none is-one is-none (suc s) = record { input = none; fails = λ a x e m. let z : suc s ≡ 0 = is-none (suc s) a x m e in omega arith }
+
+pub invented-score : (s : ℕ) → Unacceptable counting (AlwaysScores s)
+invented-score =
+    invented counting AlwaysScores one-phase empty
+    (λ s a x m e. let q : Gates (e .0) (e .1) s ≡ Gates 0 1 1 = sym (e .2) ∙ one-count one-phase a _ m one-counted in cc)
+    (λ s a x m e. let q : Gates (e .0) (e .1) s ≡ Gates 0 0 0 = sym (e .2) ∙ one-count empty a _ m none-counted in cc)
+
 pub invented-score-before : (s : ℕ) → Unacceptable folding (AlwaysScoresBefore s)
-invented-score-before zero = record { input = (one-phase, replicate 12 0); fails = λ a x e m. let q : File (e .0) 0 (e .1) ≡ File 12 1 1 = sym (e .2) ∙ one-fold one-phase (replicate 12 0) a _ x _ m one-folded .0 in let z : _≡_ {A = ℕ} 0 1 = cc in omega arith }
-invented-score-before (suc s) = record { input = (empty, replicate 8 0); fails = λ a x e m. let q : File (e .0) (suc s) (e .1) ≡ File 8 0 0 = sym (e .2) ∙ one-fold empty (replicate 8 0) a _ x _ m none-folded .0 in let z : suc s ≡ 0 = cc in omega arith }
+invented-score-before =
+    invented folding AlwaysScoresBefore (one-phase, replicate 12 0) (empty, replicate 8 0)
+    (λ s a x m e. let q : File (e .0) s (e .1) ≡ File 12 1 1 = sym (e .2) ∙ one-fold one-phase (replicate 12 0) a _ x _ m one-folded .0 in cc)
+    (λ s a x m e. let q : File (e .0) s (e .1) ≡ File 8 0 0 = sym (e .2) ∙ one-fold empty (replicate 8 0) a _ x _ m none-folded .0 in cc)
 
 pub invented-score-after : (s : ℕ) → Unacceptable folding (AlwaysScoresAfter s)
-invented-score-after zero = record { input = (one-phase, replicate 12 0); fails = λ a x e m. let q : File (e .0) (e .1) 0 ≡ File 12 1 1 = sym (e .2) ∙ one-fold one-phase (replicate 12 0) a _ x _ m one-folded .0 in let z : _≡_ {A = ℕ} 0 1 = cc in omega arith }
-invented-score-after (suc s) = record { input = (empty, replicate 8 0); fails = λ a x e m. let q : File (e .0) (e .1) (suc s) ≡ File 8 0 0 = sym (e .2) ∙ one-fold empty (replicate 8 0) a _ x _ m none-folded .0 in let z : suc s ≡ 0 = cc in omega arith }
+invented-score-after =
+    invented folding AlwaysScoresAfter (one-phase, replicate 12 0) (empty, replicate 8 0)
+    (λ s a x m e. let q : File (e .0) (e .1) s ≡ File 12 1 1 = sym (e .2) ∙ one-fold one-phase (replicate 12 0) a _ x _ m one-folded .0 in cc)
+    (λ s a x m e. let q : File (e .0) (e .1) s ≡ File 8 0 0 = sym (e .2) ∙ one-fold empty (replicate 8 0) a _ x _ m none-folded .0 in cc)
