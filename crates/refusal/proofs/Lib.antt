@@ -2,3 +2,4 @@ pub mod Outcomes
 pub mod Passed
 pub mod Contracts
 pub mod Rooms
+pub mod Cuts
