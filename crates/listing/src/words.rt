@@ -23,3 +23,8 @@ pub(crate) const WIRE: [u8; 4] = *b") q[";
 
 // What ends a line that names a wire.
 pub(crate) const CLOSING: [u8; 3] = *b"];\n";
+
+// Before the number of a refusal, and what ends that line.
+pub(crate) const REFUSED: [u8; 8] = *b"refused ";
+
+pub(crate) const NEWLINE: [u8; 1] = *b"\n";
