@@ -1,11 +1,12 @@
 -- What a caller of `of_table` or `oracle_listing` knows when it answers and when it refuses; and how much room every table's text and every printout has in.
 use Prim.Native.Nat.{ℕ, _+_, _*_, _≤_}
 use native.Mathlib.Omega.{arith}
-use mathlib.Core.Path.{_≡_, refl, ap}
+use mathlib.Core.Path.{_≡_, refl, sym, ap, _∙_}
 use mathlib.Core.Bool.{true}
 use mathlib.Core.Logic.{_⊎_, inl, inr}
 use mathlib.Core.List.{List, [], _∷_, _++_}
-use lib.ListN.{length, drop}
+use lib.ListN.{length, take, drop, length-append}
+use lib.Seq.{take-at}
 use lib.Pow.{pow-mono}
 use Rattle.refusal.specs.declared.Refusal.{Refusal}
 use Rattle.refusal.specs.Checks.{passed, refused, outcome, roomCheck}
@@ -24,10 +25,15 @@ use Rattle.fold.proofs.Folding.{folded-sound, folded-shorter}
 use Rattle.listing.specs.declared.Listed.{Listed}
 use Rattle.listing.specs.declared.Listed.the-variants.{Length, Refused}
 use Rattle.listing.specs.Listing.{listedSays, refusedLine}
-use Rattle.listing.proofs.Callers.{listed-distinct}
+use Rattle.listing.proofs.Callers.{listed-distinct, text-answers}
 use Rattle.listing.proofs.Decimals.{one-digit}
 use Rattle.listing.proofs.Lengths.{listing-short, refused-long}
 use Rattle.oracle_listing.specs.Oracle.{variablesOf, tableOf, foldedListing, oracleText, oracleChecks, ListsOracle, printed, printout, Prints}
+
+-- what was written stands at the front
+pub at-front : (result before after : List ℕ) (l : ℕ) → l ≡ length result → after ≡ result ++ drop (length result) before → (l ≤ length after) × (take l after ≡ result)
+at-front result before after l e q =
+    (omega (arith, length-append result (drop (length result) before), ap length q), ap (take l) q ∙ take-at result (drop (length result) before) l (sym e))
 
 module _ (n : ℕ) (t before : List ℕ) (a : Listed) (after : List ℕ) (m : ListsOracle n t before a after) where
   pub oracle-answers : (l : ℕ) → a ≡ Length l → (outcome (oracleChecks n t (length before)) ≡ passed) × (l ≡ length (oracleText n t)) × (after ≡ oracleText n t ++ drop (length (oracleText n t)) before)
@@ -81,3 +87,9 @@ prints-all input before h a after m =
     let room = roomCheck (length before) (length text) in
     let v = when-passed listedSays (outcome room) (length text ∷ []) text before a after (reaches room passed (inr (omega (arith, room-for-printout input), refl))) m in
     (listed-distinct a (Length (length text)) (v .0), v .1)
+
+-- the bytes that are answered are the printout
+pub print-answers : (input before : List ℕ) (a : Listed) (after : List ℕ) → Prints input before a after → (l : ℕ) → a ≡ Length l → (l ≤ length after) × (take l after ≡ printout input)
+print-answers input before a after m l e =
+    let v = text-answers (printout input) before a after m l e in
+    at-front (printout input) before after l (v .1) (v .2)

@@ -5,8 +5,8 @@ use mathlib.Core.Path.{_≡_, refl, sym, ap, subst, _∙_}
 use mathlib.Core.Bool.{true}
 use mathlib.Core.Logic.{inl}
 use mathlib.Core.List.{List, [], _∷_, _++_}
-use lib.ListN.{length, take, drop, length-append, length-drop}
-use lib.Seq.{take-at, take-all}
+use lib.ListN.{length, take, drop, length-drop}
+use lib.Seq.{take-all}
 use Rattle.refusal.specs.declared.Refusal.{Refusal}
 use Rattle.refusal.specs.Names.{refusal, VARS}
 use Rattle.refusal.specs.Checks.{Check, Outcome, passed, refused, outcome, roomCheck}
@@ -33,6 +33,7 @@ use Rattle.listing.specs.declared.Listed.the-variants.{Refused}
 use Rattle.listing.specs.Listing.{listedSays, Lists}
 use Rattle.oracle_listing.specs.Working.{ListsFolded}
 use Rattle.oracle_listing.specs.Oracle.{variablesOf, tableOf, foldedListing, oracleText, ListsOracle}
+use Rattle.oracle_listing.proofs.Callers.{at-front}
 
 -- a file stands at the front of a slice
 pub record Ready (cs : List Check) (file slice : List ℕ) (l : ℕ) : Type 0 where
@@ -41,12 +42,7 @@ pub record Ready (cs : List Check) (file slice : List ℕ) (l : ℕ) : Type 0 wh
   pub front : take l slice ≡ file
 
 ready : (cs : List Check) (result before after : List ℕ) (l : ℕ) → outcome cs ≡ passed → l ≡ length result → after ≡ result ++ drop (length result) before → Ready cs result after l
-ready cs result before after l p e q =
-    record {
-      passes = p;
-      fits = omega (arith, length-append result (drop (length result) before), ap length q);
-      front = ap (take l) q ∙ take-at result (drop (length result) before) l (sym e);
-    }
+ready cs result before after l p e q = let f = at-front result before after l e q in record { passes = p; fits = f .0; front = f .1 }
 
 -- folding, with room for the largest file
 module _ (f lent : List ℕ) (bytes : Bytes f) (long : 8200 ≡ length lent) (a : Folded) (after : List ℕ) (m : Folds f lent a after) where
