@@ -1,4 +1,4 @@
-// The listing program, on an input whose text it prints.
+// The listing program.
 
 fn main() {
     printer::run();

@@ -1,4 +1,4 @@
-// The listing program, on an input that is refused.
+// The listing program again, to be run on an input that is refused.
 
 fn main() {
     printer::run();

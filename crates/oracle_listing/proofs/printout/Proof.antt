@@ -14,6 +14,9 @@ asked c = c .before .before .before .before
 abbrev found : tie.After-struct-known → tie.After-why
 found c = c .before .before
 
+abbrev listed : tie.After-length → tie.After-oracle-listing
+listed c = c .before .before .before .before
+
 oracle-listing-requires : tie.Need-oracle-listing-requires
 oracle-listing-requires c κs = search needs
 
@@ -55,7 +58,7 @@ same-length-3 c = search needs
 returns-3 : tie.Need-returns-3
 returns-3 c =
     let f = c .before in
-    let o = f .before .before .before .before in
+    let o = listed f in
     let a = start o .args in
     text-printed (variablesOf (a .input .now)) (tableOf (a .input .now)) (a .out .now) (o .oracle-listing .result) (o .oracle-listing .last .1 .0) (o .oracle-listing .ensures) (f .length .given .0 .0) (f .length .given .1)
 
