@@ -24,7 +24,7 @@ pub record Words : Type 0 where
   pub refused : List ℕ
   pub newline : List ℕ
 
--- those of OpenQASM 2.0; "Lines end in one newline."
+-- those of OpenQASM 2.0, "Lines end in one newline."; and of "`refused N` and a newline"
 abbrev pub words : Words
 words = record {
   version = ascii "OPENQASM 2.0;\n";

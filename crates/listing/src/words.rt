@@ -1,4 +1,4 @@
-// The words of OpenQASM 2.0: what the lines are written from, and what their lengths are counted from.
+// The words of OpenQASM 2.0 and of a refusal: what the lines are written from, and what their lengths are counted from.
 pub(crate) const VERSION: [u8; 14] = *b"OPENQASM 2.0;\n";
 
 pub(crate) const INCLUDE: [u8; 22] = *b"include \"qelib1.inc\";\n";
