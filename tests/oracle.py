@@ -322,12 +322,20 @@ def oracle_listing(stdin, room=None):
     return listing(folded, True, room)
 
 
-def listing_program(stdin):
+def refused_line(number, room=None):
+    line = f"refused {number}\n"
+    check_room(room, len(line))
+    return line.encode("ascii")
+
+
+def printout(stdin, room=None):
     """What the listing program prints for these bytes on standard input."""
     try:
-        return oracle_listing(stdin)
+        text = oracle_listing(stdin)
     except Refused as refused:
-        return f"refused {refused.number}\n".encode("ascii")
+        return refused_line(refused.number, room)
+    check_room(room, len(text))
+    return text
 
 
 # Cases on each side
@@ -406,8 +414,8 @@ def check():
     holds(refusal(build, 1, byte("02"), 31), (ROOM, 0, 0))
     holds(refusal(build, 1, byte("02"), 32), None)
 
-    holds(listing_program(byte("01 02")), EXAMPLE_LISTING)
-    holds(listing_program(b""), b"refused 1\n")
+    holds(printout(byte("01 02")), EXAMPLE_LISTING)
+    holds(printout(b""), b"refused 1\n")
     print(f"{held} cases of document 01 hold")
 
 

@@ -14,7 +14,7 @@ Request = namedtuple("Request", "op a b room first second note")
 
 # In the order of their numbers in `cases`
 OPERATIONS = ["spectrum", "check", "value", "decode", "gate_at", "read", "run", "count",
-              "build", "fold", "list", "oracle", "compare", "judge"]
+              "build", "fold", "list", "oracle", "compare", "judge", "printout", "refused"]
 
 
 # Requests, one maker an operation
@@ -75,6 +75,14 @@ def oracle_listing(note, stdin, room):
     return Request("oracle", 0, 0, room, stdin, b"", note)
 
 
+def printout(note, stdin, room):
+    return Request("printout", 0, 0, room, stdin, b"", note)
+
+
+def refused_line(note, number, room):
+    return Request("refused", number, 0, room, b"", b"", note)
+
+
 def frame(request):
     numbers = request.b, request.room, len(request.first), len(request.second)
     header = bytes([OPERATIONS.index(request.op), request.a])
@@ -104,7 +112,8 @@ def entry_bytes(entries, width):
 
 
 # Bytes shown of an entry of the lent slice; every sum of a spectrum fits in two
-WIDTH_LENT = {"spectrum": 2, "build": 1, "fold": 1, "compare": 2, "judge": 2, "list": 1, "oracle": 1}
+WIDTH_LENT = {"spectrum": 2, "build": 1, "fold": 1, "compare": 2, "judge": 2, "list": 1, "oracle": 1,
+              "printout": 1, "refused": 1}
 
 
 def request_words(request):
@@ -162,6 +171,12 @@ def answer(request):
         return [len(written)], written
     if op == "oracle":
         written = oracle.oracle_listing(first, room)
+        return [len(written)], written
+    if op == "printout":
+        written = oracle.printout(first, room)
+        return [len(written)], written
+    if op == "refused":
+        written = oracle.refused_line(a, room)
         return [len(written)], written
 
 
@@ -914,6 +929,34 @@ def oracle_section(rng):
         yield oracle_listing(f"{note}, no room", bytes([n]) + table, 0)
 
 
+# Section printout
+
+def printout_rooms(note, stdin, rooms=(0, -1)):
+    length = len(oracle.printout(stdin))
+    for extra in rooms:
+        yield printout(f"{note}, room {extra:+}", stdin, length + extra)
+
+
+def printout_section(rng):
+    yield from printout_rooms("the listing's example", b"\1\2")
+    yield from printout_rooms("an empty input is refused 1", b"", rooms=(0, 1, 21, -1, -9, -10))
+    for byte in range(4):
+        yield from printout_rooms("every table", bytes([1, byte]), rooms=(0, 1, 21, -1))
+    for n in range(2, 9):
+        yield from printout_rooms(f"n {n}, random", bytes([n]) + random_table(rng, n), rooms=(0, 1, -1))
+    for note, n, table in refused_tables(rng):
+        yield from printout_rooms(note, bytes([n]) + table)
+    for n in (0, 1, 3, 7, 8, 9, 255):
+        for length in (33, 34, 35, 100, 8300):
+            yield from printout_rooms(f"n {n} in {length} bytes", bytes([n]) + bytes(length - 1))
+    for stdin in (b"", b"\1\2", b"\1\4", b"\2", b"\x09"):
+        yield printout("no room", stdin, 0)
+        yield printout("room for each", stdin, 65535)
+    for number in (*range(21), 99, 100, 101, 199, 200, 255):
+        for room in range(9, 13):
+            yield refused_line(f"room {room}", number, room)
+
+
 # Section paper
 
 def paper_section(rng):
@@ -1003,6 +1046,7 @@ SECTIONS = {
     "paper": (100, paper_section), "spectrum": (101, spectrum_section), "circuit": (102, circuit_section),
     "build": (103, build_section), "fold": (104, fold_section), "verdict": (105, verdict_section),
     "listing": (106, listing_section), "table": (107, table_section), "oracle": (108, oracle_section),
+    "printout": (109, printout_section),
 }
 
 

@@ -30,7 +30,9 @@ pub(crate) fn line(r: Request, first: &[u8], second: &[u8]) {
     let op = r.op;
     match op {
         request::SPECTRUM => spectrum(r.a, r.room, first),
-        request::BUILD..=request::ORACLE => lend_bytes(op, r.a, r.room, first),
+        request::BUILD..=request::ORACLE | request::PRINTOUT..=request::REFUSED => {
+            lend_bytes(op, r.a, r.room, first)
+        }
         request::COMPARE | request::JUDGE => lend_work(op, r.a, r.room, first, second),
         _ => lend_nothing(op, r.a, r.b, first),
     }
@@ -161,14 +163,17 @@ fn write(op: u8, a: u8, first: &[u8], out: &mut [u8]) {
             }
             Folded::Refused(refusal) => refused(refusal),
         },
-        request::LIST => match listing::list(first, a == 1, out) {
-            Listed::Length(length) => answers(length),
-            Listed::Refused(refusal) => refused(refusal),
-        },
-        _ => match oracle_listing::oracle_listing(first, out) {
-            Listed::Length(length) => answers(length),
-            Listed::Refused(refusal) => refused(refusal),
-        },
+        request::LIST => text(listing::list(first, a == 1, out)),
+        request::ORACLE => text(oracle_listing::oracle_listing(first, out)),
+        request::PRINTOUT => text(oracle_listing::printout(first, out)),
+        _ => text(listing::refused_line(a, out)),
+    }
+}
+
+fn text(answer: Listed) {
+    match answer {
+        Listed::Length(length) => answers(length),
+        Listed::Refused(refusal) => refused(refusal),
     }
 }
 

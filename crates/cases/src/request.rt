@@ -29,6 +29,10 @@ pub(crate) const COMPARE: u8 = 12;
 
 pub(crate) const JUDGE: u8 = 13;
 
+pub(crate) const PRINTOUT: u8 = 14;
+
+pub(crate) const REFUSED: u8 = 15;
+
 // How many cases each operation had.
 pub type Tally = [usize; 16];
 

@@ -6,3 +6,4 @@ pub mod Writing
 pub mod Parts
 pub mod FileBytes
 pub mod Walks
+pub mod Cuts

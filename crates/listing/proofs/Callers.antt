@@ -1,4 +1,4 @@
--- What a caller of `list` knows when it answers and when it refuses; that no two answers say the same; and how long the text can be.
+-- What a caller of `list` or `refused_line` knows when it answers and when it refuses; that no two answers say the same; and how long a file's text can be.
 use Prim.Native.Nat.{ℕ, _≤_}
 use native.Mathlib.Omega.{arith}
 use mathlib.Core.Path.{_≡_, ap}
@@ -6,7 +6,8 @@ use mathlib.Core.Bool.{Bool}
 use mathlib.Core.List.{List, [], _∷_, _++_}
 use lib.ListN.{length, drop}
 use Rattle.refusal.specs.declared.Refusal.{Refusal}
-use Rattle.refusal.specs.Checks.{passed, refused, outcome}
+use Rattle.refusal.specs.Checks.{Check, passed, refused, outcome, roomCheck}
+use Rattle.refusal.proofs.Passed.{passed-fail}
 use Rattle.refusal.proofs.Contracts.{Distinct, same-refusal, meets-values, meets-refusal}
 use Rattle.refusal.proofs.Rooms.{room-suffices}
 use Rattle.circuit.specs.File.{wiresOf, gatesOf, fileChecks}
@@ -15,7 +16,7 @@ use Rattle.circuit.proofs.Callers.{good-file}
 use Rattle.circuit.proofs.Files.{file-sound, length-gates}
 use Rattle.listing.specs.declared.Listed.{Listed}
 use Rattle.listing.specs.declared.Listed.the-variants.{Length, Refused}
-use Rattle.listing.specs.Listing.{listingOfFile, listChecks, listedSays, Lists}
+use Rattle.listing.specs.Listing.{listingOfFile, listChecks, listedSays, Lists, Writes}
 use Rattle.listing.proofs.Lengths.{listing-short}
 
 module _ (wrapped : Bool) (f before : List ℕ) (a : Listed) (after : List ℕ) (m : Lists wrapped f before a after) where
@@ -29,6 +30,19 @@ module _ (wrapped : Bool) (f before : List ℕ) (a : Listed) (after : List ℕ) 
 
   pub list-refuses : (r : Refusal) → a ≡ Refused r → (outcome (listChecks wrapped f (length before)) ≡ refused r) × (after ≡ before)
   list-refuses r e = meets-refusal listedSays (outcome (listChecks wrapped f (length before))) (length text ∷ []) text before a after m r (ap listedSays e)
+
+-- what a caller knows of a function that writes a text and has nothing but the room to refuse
+module _ (text before : List ℕ) (a : Listed) (after : List ℕ) (m : Writes text before a after) where
+  abbrev room : List Check
+  room = roomCheck (length before) (length text)
+
+  pub text-answers : (l : ℕ) → a ≡ Length l → (length text ≤ length before) × (l ≡ length text) × (after ≡ text ++ drop (length text) before)
+  text-answers l e =
+      let v = meets-values listedSays (outcome room) (length text ∷ []) text before a after m (l ∷ []) (ap listedSays e) in
+      (passed-fail room (v .0) .0, cc (v .1), v .2)
+
+  pub text-refuses : (r : Refusal) → a ≡ Refused r → (outcome room ≡ refused r) × (after ≡ before)
+  text-refuses r e = meets-refusal listedSays (outcome room) (length text ∷ []) text before a after m r (ap listedSays e)
 
 pub listed-distinct : Distinct listedSays
 listed-distinct (Length l) (Length m) e = cc

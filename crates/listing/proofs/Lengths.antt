@@ -13,7 +13,7 @@ use Rattle.circuit.proofs.Decoding.{sound-wider}
 use Rattle.listing.specs.Text.{decimal, numbered}
 use Rattle.listing.specs.Words.{words}
 use Rattle.listing.specs.Fractions.{Fraction, fractionOf}
-use Rattle.listing.specs.Listing.{headLines, wrapLine, cnotLine, phaseLine, gateLine, gateLines, listingOf}
+use Rattle.listing.specs.Listing.{headLines, wrapLine, cnotLine, phaseLine, gateLine, gateLines, listingOf, refusedLine}
 use Rattle.listing.specs.Working.{headLength, cnotLength, phaseLength, longestLine}
 use Rattle.listing.proofs.Decimals.{one-digit, two-digits, five-digits}
 use Rattle.listing.proofs.Fractions.{denominator-most, fraction-equals}
@@ -38,6 +38,10 @@ pub phase-long : (i : ℕ) (f : Fraction) → length (phaseLine i f) ≡ phaseLe
 unfolding phaseLine
 phase-long i f =
     omega (arith, length-append (decimal (f .above)) (numbered (words .over) (f .below) ++ (numbered (words .wire) i ++ words .closing)), length-append (decimal (f .below)) (numbered (words .wire) i ++ words .closing), length-append (decimal i) (words .closing))
+
+pub refused-long : (n : ℕ) → length (refusedLine n) ≡ length (words .refused) + length (decimal n) + length (words .newline)
+unfolding refusedLine
+refused-long n = omega (arith, length-append (decimal n) (words .newline))
 
 -- a header, an h line and a gate's line on at most 10 wires
 pub head-short : (w : ℕ) → w ≤ 10 → length (headLines w) ≤ 48

@@ -12,7 +12,7 @@ use Rattle.circuit.specs.File.{wiresOf, gatesOf}
 use Rattle.listing.specs.Text.{numbered}
 use Rattle.listing.specs.Words.{words}
 use Rattle.listing.specs.Fractions.{Fraction, fractionOf}
-use Rattle.listing.specs.Listing.{headLines, wrapLine, cnotLine, phaseLine, gateLine, gateLines, listingOf, listingOfFile}
+use Rattle.listing.specs.Listing.{headLines, wrapLine, cnotLine, phaseLine, gateLine, gateLines, listingOf, listingOfFile, refusedLine}
 use Rattle.circuit.proofs.Parts.{Left, all-left}
 
 pub head-left : (w at : ℕ) (out : List ℕ) → at + length (headLines w) ≤ length out
@@ -52,3 +52,7 @@ pub listing-left : (b : Bool) (f : List ℕ) (w : ℕ) (out : List ℕ) → w �
     → Left (listingOfFile b f) 0 out (headLines w ++ (wrapLine b w ++ (gateLines (gatesOf f) ++ wrapLine b w))) 0 out
 unfolding listingOf
 listing-left b f w out e h = rw e (all-left 0 out refl (rw (zero-add (length (listingOfFile b f))) h))
+
+pub refused-left : (n : ℕ) (out : List ℕ) → length (refusedLine n) ≤ length out → Left (refusedLine n) 0 out (numbered (words .refused) n ++ words .newline) 0 out
+unfolding refusedLine
+refused-left n out h = all-left 0 out refl (rw (zero-add (length (refusedLine n))) h)

@@ -62,3 +62,11 @@ listedSays (Refused r) = saidOf r
 abbrev pub Lists : Bool → List ℕ → List ℕ → Listed → List ℕ → Type 0
 Lists wrapped f out answer after =
     Meets listedSays (outcome (listChecks wrapped f (length out))) (length (listingOfFile wrapped f) ∷ []) (listingOfFile wrapped f) out answer after
+
+-- "`refused N` and a newline"
+unfoldable pub refusedLine : ℕ → List ℕ
+refusedLine number = numbered (words .refused) number ++ words .newline
+
+-- the contract of a function that writes a text and has nothing else to refuse: row 13 where out is shorter
+abbrev pub Writes : List ℕ → List ℕ → Listed → List ℕ → Type 0
+Writes text out answer after = Meets listedSays (outcome (roomCheck (length out) (length text))) (length text ∷ []) text out answer after

@@ -3,7 +3,7 @@ use Prim.Native.Nat.{ℕ}
 use mathlib.Core.List.{List}
 use Rattle.listing.specs.Text.{ascii}
 
--- the words of a language of listings
+-- the words of a language of listings, and of the line that stands for one that is refused
 pub record Words : Type 0 where
   -- the first two header lines, and what stands before W in the third
   pub version : List ℕ
@@ -20,8 +20,11 @@ pub record Words : Type 0 where
   pub wire : List ℕ
   -- what ends a line that names a wire
   pub closing : List ℕ
+  -- before the number of a refusal, and what ends that line
+  pub refused : List ℕ
+  pub newline : List ℕ
 
--- those of OpenQASM 2.0; "Lines end in one newline."
+-- those of OpenQASM 2.0, "Lines end in one newline."; and of "`refused N` and a newline"
 abbrev pub words : Words
 words = record {
   version = ascii "OPENQASM 2.0;\n";
@@ -34,4 +37,6 @@ words = record {
   over = ascii "*pi/";
   wire = ascii ") q[";
   closing = ascii "];\n";
+  refused = ascii "refused ";
+  newline = ascii "\n";
 }

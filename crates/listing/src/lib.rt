@@ -13,7 +13,7 @@ ghost use lib.ListN.{length};
 ghost use Rattle.refusal.specs.Checks.{outcome, passed};
 ghost use Rattle.circuit.specs.File.{wiresOf, countOf, gatesOf, fileChecks};
 ghost use Rattle.circuit.specs.Working.{Wrote};
-ghost use Rattle.listing.specs.Listing.{gateLines, listingOfFile, Lists};
+ghost use Rattle.listing.specs.Listing.{gateLines, listingOfFile, refusedLine, Lists, Writes};
 ghost use Rattle.listing.specs.Working.{longestLine};
 
 pub enum Listed {
@@ -85,4 +85,16 @@ pub fn list(file: &[u8], wrapped: bool, out: &mut [u8]) -> Listed
             Listed::Length(lines::put_wrap(wrapped, wires, out, at))
         }
     }
+}
+
+// The line that says a refusal's number, at the front of out, or refusal 13.
+pub fn refused_line(number: u8, out: &mut [u8]) -> Listed
+    ensures { λ r. ⌜ Writes (refusedLine number) (now (out .entry)) r (now (out .exit)) ⌝ }
+{
+    let number = number as u16;
+    if out.len() < words::REFUSED.len() + text::digits(number) + words::NEWLINE.len() {
+        return Listed::Refused(refusal::by(refusal::ROOM));
+    }
+    let at = text::put_numbered(&words::REFUSED, number, out, 0);
+    Listed::Length(text::put_text(&words::NEWLINE, out, at))
 }

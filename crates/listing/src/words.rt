@@ -1,4 +1,4 @@
-// The words of OpenQASM 2.0: what the lines are written from, and what their lengths are counted from.
+// The words of OpenQASM 2.0 and of a refusal: what the lines are written from, and what their lengths are counted from.
 pub(crate) const VERSION: [u8; 14] = *b"OPENQASM 2.0;\n";
 
 pub(crate) const INCLUDE: [u8; 22] = *b"include \"qelib1.inc\";\n";
@@ -23,3 +23,8 @@ pub(crate) const WIRE: [u8; 4] = *b") q[";
 
 // What ends a line that names a wire.
 pub(crate) const CLOSING: [u8; 3] = *b"];\n";
+
+// Before the number of a refusal, and what ends that line.
+pub(crate) const REFUSED: [u8; 8] = *b"refused ";
+
+pub(crate) const NEWLINE: [u8; 1] = *b"\n";

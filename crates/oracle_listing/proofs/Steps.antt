@@ -12,21 +12,20 @@ use Rattle.refusal.specs.Names.{refusal, VARS}
 use Rattle.refusal.specs.Checks.{Check, Outcome, passed, refused, outcome, roomCheck}
 use Rattle.refusal.specs.Contract.{Meets}
 use Rattle.refusal.proofs.Outcomes.{reaches, then-passed}
-use Rattle.refusal.proofs.Rooms.{earlier-refused, room-suffices}
+use Rattle.refusal.proofs.Rooms.{earlier-refused}
 use Rattle.table.specs.Table.{tableChecks}
 use Rattle.table.proofs.Callers.{good-variables}
-use Rattle.circuit.specs.File.{fileChecks, wiresOf, gatesOf}
+use Rattle.circuit.specs.File.{fileChecks}
 use Rattle.circuit.specs.Bytes.{Bytes}
 use Rattle.build.specs.declared.Built.{Built}
 use Rattle.build.specs.declared.Built.the-variants.{Length as BuiltLength, Refused as BuiltRefused}
 use Rattle.build.specs.Construction.{builtFile, buildChecks, Builds}
 use Rattle.build.proofs.Files.{built-long, built-passes}
 use Rattle.build.proofs.Callers.{build-room, build-answers, build-refuses}
-use Rattle.circuit.proofs.Files.{length-file}
 use Rattle.fold.specs.declared.Folded.{Folded}
 use Rattle.fold.specs.declared.Folded.the-variants.{File, Refused as FoldRefused}
-use Rattle.fold.specs.Fold.{foldedFile, folded, foldChecks, Folds}
-use Rattle.fold.proofs.Files.{few-gates, folded-passes}
+use Rattle.fold.specs.Fold.{foldedFile, foldChecks, Folds}
+use Rattle.fold.proofs.Files.{folded-passes, fold-room}
 use Rattle.fold.proofs.Callers.{fold-answers, fold-refuses}
 use Rattle.listing.specs.declared.Listed.{Listed}
 use Rattle.listing.specs.declared.Listed.the-variants.{Refused}
@@ -51,7 +50,7 @@ ready cs result before after l p e q =
 -- folding, with room for the largest file
 module _ (f lent : List ℕ) (bytes : Bytes f) (long : 8200 ≡ length lent) (a : Folded) (after : List ℕ) (m : Folds f lent a after) where
   only-file : outcome (foldChecks f (length lent)) ≡ outcome (fileChecks 0 f)
-  only-file = room-suffices (fileChecks 0 f) (length lent) (length (foldedFile f)) (λ e. omega (arith, few-gates 0 f bytes e, length-file (wiresOf f) (folded (wiresOf f) (gatesOf f))))
+  only-file = fold-room f bytes (length lent) (omega arith)
 
   pub file-refuses : (r : Refusal) → a ≡ FoldRefused r → outcome (fileChecks 0 f) ≡ refused r
   file-refuses r e = sym only-file ∙ fold-refuses f lent a after m r e .0

@@ -3,13 +3,13 @@ use Prim.Native.Nat.{ℕ}
 use mathlib.Core.Bool.{true}
 use mathlib.Core.List.{List, [], _∷_, _++_}
 use lib.ListN.{length, getD, drop}
-use Rattle.refusal.specs.Checks.{Check, outcome, roomCheck}
+use Rattle.refusal.specs.Checks.{Check, outcome, settle, roomCheck}
 use Rattle.refusal.specs.Contract.{Meets}
 use Rattle.table.specs.Table.{tableChecks}
 use Rattle.build.specs.Construction.{builtFile}
 use Rattle.fold.specs.Fold.{foldedFile}
 use Rattle.listing.specs.declared.Listed.{Listed}
-use Rattle.listing.specs.Listing.{listingOfFile, listedSays}
+use Rattle.listing.specs.Listing.{listingOfFile, listedSays, refusedLine, Writes}
 
 -- "reads the byte n and then the table"; of an empty input n is 0, which row 1 refuses
 abbrev pub variablesOf : List ℕ → ℕ
@@ -34,3 +34,15 @@ oracleChecks n t room = tableChecks n t ++ roomCheck room (length (oracleText n 
 abbrev pub ListsOracle : ℕ → List ℕ → List ℕ → Listed → List ℕ → Type 0
 ListsOracle n t out answer after =
     Meets listedSays (outcome (oracleChecks n t (length out))) (length (oracleText n t) ∷ []) (oracleText n t) out answer after
+
+-- "prints the wrapped listing of the folded circuit, or `refused N` and a newline"
+abbrev pub printed : ℕ → List ℕ → List ℕ
+printed n t = settle (outcome (tableChecks n t)) (λ r. refusedLine (r .number)) (oracleText n t)
+
+-- what the listing program prints for an input
+abbrev pub printout : List ℕ → List ℕ
+printout input = printed (variablesOf input) (tableOf input)
+
+-- the contract of printout: 13 where out is shorter, and nothing else
+abbrev pub Prints : List ℕ → List ℕ → Listed → List ℕ → Type 0
+Prints input = Writes (printout input)

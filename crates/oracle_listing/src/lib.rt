@@ -5,7 +5,7 @@ use listing::Listed;
 ghost use mathlib.Core.Path.{_≡_};
 ghost use lib.ListN.{length};
 ghost use Rattle.oracle_listing.specs.Working.{ListsFolded};
-ghost use Rattle.oracle_listing.specs.Oracle.{variablesOf, tableOf, ListsOracle};
+ghost use Rattle.oracle_listing.specs.Oracle.{variablesOf, tableOf, ListsOracle, Prints};
 
 // Room for the largest built file, of 8 variables.
 fn built_room() -> [u8; 4096]
@@ -55,4 +55,20 @@ pub fn oracle_listing(input: &[u8], out: &mut [u8]) -> Listed
         return Listed::Refused(refusal::by(refusal::VARS));
     }
     of_table(input[0], &input[1..], out)
+}
+
+// What the listing program prints for its input: the text, or the line that says the refusal. The
+// only refusal of its own is 13.
+pub fn printout(input: &[u8], out: &mut [u8]) -> Listed
+    ensures { λ r. ⌜ Prints (now (input .entry)) (now (out .entry)) r (now (out .exit)) ⌝ }
+{
+    match oracle_listing(input, out) {
+        Listed::Refused(why) => {
+            if why.number == refusal::ROOM {
+                return Listed::Refused(why);
+            }
+            listing::refused_line(why.number, out)
+        }
+        Listed::Length(length) => Listed::Length(length),
+    }
 }

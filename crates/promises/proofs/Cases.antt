@@ -21,12 +21,12 @@ use Rattle.verdict.specs.Verdicts.{verdict, differences}
 use Rattle.numbers.specs.Search.{least}
 use Rattle.listing.specs.Text.{decimalFrom}
 use Rattle.listing.specs.Fractions.{denominator}
-use Rattle.listing.specs.Listing.{headLines, wrapLine, cnotLine, phaseLine, gateLines, listingOf}
+use Rattle.listing.specs.Listing.{headLines, wrapLine, cnotLine, phaseLine, gateLines, listingOf, refusedLine}
 use Rattle.promises.specs.Cases.{AllHold, cases}
 
 pub cases-hold : AllHold cases
-unfolding cases outcome dot subset ones onesIn trailingZeros spectrumOf decoded firstBad gatesFrom bytesOf fileOf endFrom totalFrom cnots phases score masksFrom sumMet turned word construction foldedFrom coefficient differences least verdict decimalFrom denominator headLines wrapLine cnotLine phaseLine gateLines listingOf
-cases-hold = (record { says = refl; leaves = refl }, (record { says = refl; leaves = refl }, (record { says = refl; leaves = refl }, (record { says = refl; leaves = refl }, (record { says = refl; leaves = refl }, (refl, (record { says = refl; leaves = refl }, (record { says = refl; leaves = refl }, (record { says = refl; leaves = refl }, (record { says = refl; leaves = refl }, (record { says = refl; leaves = refl }, (record { says = refl; leaves = refl }, (record { says = refl; leaves = refl }, (record { says = refl; leaves = refl }, (record { says = refl; leaves = refl }, tt)))))))))))))))
+unfolding cases outcome dot subset ones onesIn trailingZeros spectrumOf decoded firstBad gatesFrom bytesOf fileOf endFrom totalFrom cnots phases score masksFrom sumMet turned word construction foldedFrom coefficient differences least verdict decimalFrom denominator headLines wrapLine cnotLine phaseLine gateLines listingOf refusedLine
+cases-hold = (record { says = refl; leaves = refl }, (record { says = refl; leaves = refl }, (record { says = refl; leaves = refl }, (record { says = refl; leaves = refl }, (record { says = refl; leaves = refl }, (refl, (record { says = refl; leaves = refl }, (record { says = refl; leaves = refl }, (record { says = refl; leaves = refl }, (record { says = refl; leaves = refl }, (record { says = refl; leaves = refl }, (record { says = refl; leaves = refl }, (record { says = refl; leaves = refl }, (record { says = refl; leaves = refl }, (record { says = refl; leaves = refl }, (record { says = refl; leaves = refl }, (record { says = refl; leaves = refl }, tt)))))))))))))))))
 
 -- "For n 2, byte 08: 14 gates, folding to 13, score 8 to 7; its first gate becomes phase 8,192 on wire 2."
 abbrev both : List Gate

@@ -8,7 +8,7 @@ use mathlib.Core.List.{List, []}
 use lib.ListN.{length}
 use lib.IntN.{ℤ}
 use Rattle.refusal.specs.declared.Refusal.{Refusal}
-use Rattle.refusal.specs.Checks.{Check, Outcome, passed, refused, outcome, settle, AllFail}
+use Rattle.refusal.specs.Checks.{Check, Outcome, passed, refused, outcome, settle, AllFail, roomCheck}
 use Rattle.refusal.specs.Contract.{Said, values, saidOf, Says, Meets}
 use Rattle.refusal.proofs.Passed.{passed-fail, fail-passed}
 use Rattle.refusal.proofs.Contracts.{says-refused, says-values, said-refused}
@@ -28,8 +28,8 @@ use Rattle.fold.specs.Fold.{foldChecks, foldedSays, Folds}
 use Rattle.verdict.specs.declared.Compared.{Compared}
 use Rattle.verdict.specs.Judging.{compareChecks, judgeChecks, comparedSays, Compares, Judges}
 use Rattle.listing.specs.declared.Listed.{Listed}
-use Rattle.listing.specs.Listing.{listChecks, listedSays, Lists}
-use Rattle.oracle_listing.specs.Oracle.{oracleChecks, ListsOracle}
+use Rattle.listing.specs.Listing.{listChecks, listedSays, Lists, Writes}
+use Rattle.oracle_listing.specs.Oracle.{oracleChecks, ListsOracle, printout, Prints}
 use Rattle.promises.specs.Demands.{Answers, Refuses, FirstDemand}
 
 module _ {Answer : Type 0} (said : Answer → Said) (checks : List Check) (vs : List ℕ) (answer : Answer) (says : Says said (outcome checks) vs answer) where
@@ -104,3 +104,9 @@ list-first wrapped f out = first-of-meets listedSays (listChecks wrapped f (leng
 
 pub oracle-first : (n : ℕ) (t out : List ℕ) (a : Listed) (after : List ℕ) → ListsOracle n t out a after → FirstDemand listedSays (oracleChecks n t (length out)) out a after
 oracle-first n t out = first-of-meets listedSays (oracleChecks n t (length out)) _ _ out
+
+pub writing-first : (text out : List ℕ) (a : Listed) (after : List ℕ) → Writes text out a after → FirstDemand listedSays (roomCheck (length out) (length text)) out a after
+writing-first text out = first-of-meets listedSays (roomCheck (length out) (length text)) _ _ out
+
+pub printout-first : (input out : List ℕ) (a : Listed) (after : List ℕ) → Prints input out a after → FirstDemand listedSays (roomCheck (length out) (length (printout input))) out a after
+printout-first input = writing-first (printout input)

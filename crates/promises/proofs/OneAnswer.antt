@@ -21,9 +21,9 @@ use Rattle.fold.specs.Fold.{foldedSays, Folds}
 use Rattle.fold.proofs.Callers.{folded-distinct}
 use Rattle.verdict.specs.Judging.{comparedSays, Compares, Judges}
 use Rattle.verdict.proofs.Callers.{compared-distinct}
-use Rattle.listing.specs.Listing.{listedSays, Lists}
+use Rattle.listing.specs.Listing.{listedSays, Lists, Writes}
 use Rattle.listing.proofs.Callers.{listed-distinct}
-use Rattle.oracle_listing.specs.Oracle.{ListsOracle}
+use Rattle.oracle_listing.specs.Oracle.{ListsOracle, printout, Prints}
 use Rattle.promises.specs.Demands.{NoSecond, NoSecondAnswer}
 
 pub one-check : (n : ℕ) (t : List ℕ) → NoSecondAnswer (Checks n t)
@@ -64,3 +64,9 @@ one-listing wrapped f out = one-answer listedSays _ _ _ out listed-distinct
 
 pub one-oracle : (n : ℕ) (t out : List ℕ) → NoSecond (ListsOracle n t out)
 one-oracle n t out = one-answer listedSays _ _ _ out listed-distinct
+
+pub one-writing : (text out : List ℕ) → NoSecond (Writes text out)
+one-writing text out = one-answer listedSays _ _ _ out listed-distinct
+
+pub one-printout : (input out : List ℕ) → NoSecond (Prints input out)
+one-printout input = one-writing (printout input)

@@ -19,7 +19,7 @@ use Rattle.verdict.specs.declared.Compared.the-variants.{Found}
 use Rattle.verdict.specs.Judging.{Compares}
 use Rattle.listing.specs.declared.Listed.the-variants.{Length}
 use Rattle.listing.specs.Text.{ascii}
-use Rattle.oracle_listing.specs.Oracle.{variablesOf, tableOf, ListsOracle}
+use Rattle.oracle_listing.specs.Oracle.{Prints}
 
 pub data Case : Type 0 where
   -- n, a table, its spectrum
@@ -45,7 +45,7 @@ Holds (built n t f) = Builds n t (zeros f) (BuiltLength (length f)) f
 Holds (counted f c p s) = Counts f (Gates c p s)
 Holds (folds f g b a) = Folds f (zeros g) (File (length g) b a) g
 Holds (compared f g v d) = Compares f g (zeros d) (Found v) d
-Holds (prints input text) = ListsOracle (variablesOf input) (tableOf input) (zeros text) (Length (length text)) text
+Holds (prints input text) = Prints input (zeros text) (Length (length text)) text
 
 abbrev pub AllHold : List Case → Type 0
 AllHold [] = Unit {0}
@@ -85,4 +85,7 @@ cases =
     ∷ prints (0x01 ∷ 0x02 ∷ [])
     (ascii
     "OPENQASM 2.0;\ninclude \"qelib1.inc\";\nqreg q[2];\nh q[1];\nu1(1*pi/2) q[1];\nu1(1*pi/2) q[0];\ncx q[0],q[1];\nu1(3*pi/2) q[1];\ncx q[0],q[1];\nh q[1];\n")
+    -- "An empty input is refused 1."; "n 1 byte 04 is refused 3"
+    ∷ prints [] (ascii "refused 1\n")
+    ∷ prints (0x01 ∷ 0x04 ∷ []) (ascii "refused 3\n")
     ∷ []

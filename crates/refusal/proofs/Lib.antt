@@ -3,3 +3,4 @@ pub mod Passed
 pub mod Contracts
 pub mod Rooms
 pub mod Numbering
+pub mod Cuts

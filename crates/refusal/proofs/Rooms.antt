@@ -8,11 +8,15 @@ use Rattle.refusal.specs.declared.Refusal.{Refusal}
 use Rattle.refusal.specs.Names.{refusal, ROOM}
 use Rattle.refusal.specs.Checks.{Check, Outcome, passed, refused, outcome, roomCheck}
 use Rattle.refusal.specs.Contract.{Said, values, saidOf, Meets}
-use Rattle.refusal.proofs.Outcomes.{reaches, either, then-refused, both-pass}
+use Rattle.refusal.proofs.Outcomes.{reaches, either, given-by, then-refused, both-pass}
 use Rattle.refusal.proofs.Contracts.{first-refuses, second-refuses, both-answer}
 
 enough-room : (room need : ℕ) → need ≤ room → outcome (roomCheck room need) ≡ passed
 enough-room room need h = reaches (roomCheck room need) passed (inr (h, refl))
+
+-- only ROOM is refused
+pub room-refusal : (room need : ℕ) (r : Refusal) → outcome (roomCheck room need) ≡ refused r → r ≡ refusal ROOM
+room-refusal room need = given-by (λ (r : Refusal). r ≡ refusal ROOM) (roomCheck room need) (refl, tt)
 
 -- a room that suffices whenever the other checks pass changes nothing: only they can refuse
 pub room-suffices : (cs : List Check) (room need : ℕ) → (outcome cs ≡ passed → need ≤ room) → outcome (cs ++ roomCheck room need) ≡ outcome cs

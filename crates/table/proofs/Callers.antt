@@ -5,6 +5,7 @@ use mathlib.Core.Path.{_≡_, refl, ap}
 use mathlib.Core.List.{[], List}
 use Rattle.refusal.specs.declared.Refusal.{Refusal}
 use Rattle.refusal.specs.Checks.{passed, refused, outcome}
+use Rattle.refusal.proofs.Outcomes.{given-by}
 use Rattle.refusal.proofs.Passed.{passed-fail}
 use Rattle.refusal.proofs.Contracts.{Distinct, same-refusal, answers-values, answers-refusal}
 use Rattle.table.specs.declared.Checked.{Checked}
@@ -24,6 +25,10 @@ module _ (n : ℕ) (t : List ℕ) where
   good-variables e =
       let p = passed-fail (tableChecks n t) e in
       (omega (arith, p .0), p .1 .0)
+
+  -- a table is refused by rows 1 to 3
+  pub table-refusal : (r : Refusal) → outcome (tableChecks n t) ≡ refused r → r .number ≤ 3
+  table-refusal = given-by (λ (r : Refusal). r .number ≤ 3) (tableChecks n t) (omega arith, (omega arith, (omega arith, (omega arith, tt))))
 
 pub checked-distinct : Distinct checkedSays
 checked-distinct Good Good e = refl

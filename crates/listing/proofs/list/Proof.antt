@@ -3,12 +3,12 @@ use native.Mathlib.Omega.{arith}
 use mathlib.Core.Path.{sym, _∙_}
 use mathlib.Core.List.{List, _++_}
 use lib.ListN.{length}
-use Rattle.circuit.specs.File.{gatesOf}
+use Rattle.circuit.specs.File.{gatesOf, fileChecks}
 use Rattle.circuit.proofs.Callers.{Answered, read-answers, read-refuses}
 use Rattle.listing.specs.Listing.{headLines, wrapLine, gateLines, listingOfFile}
 use Rattle.circuit.proofs.Parts.{Left, room, less-left, all-written}
 use Rattle.listing.proofs.Pieces.{listing-left}
-use Rattle.listing.proofs.Answers.{file-fails, room-fails, answered}
+use Rattle.listing.proofs.Answers.{earlier-fails, room-fails, answered}
 use borrow.Author.Needs.{needs}
 use borrow.Author.Tests.{leb-true, leb-false, not-true, not-false}
 use Rattle.listing.proofs.list.Statement.{statement}
@@ -91,7 +91,7 @@ returns : tie.Need-returns
 returns c = let f = c .before .before in
     let w = f .before .before in
     let a = start w .args in
-    room-fails (a .wrapped) (a .file .now) (a .out .now) (good w .passes) (leb-false (length (listingOfFile (a .wrapped) (a .file .now))) (length (a .out .now)) (sym (f .fits2 .ensures) ∙ not-true (f .fits2 .result) (c .before .if1 .taken))) (c .by .result) (c .by .ensures)
+    room-fails (fileChecks 0 (a .file .now)) (listingOfFile (a .wrapped) (a .file .now)) (a .out .now) (good w .passes) (leb-false (length (listingOfFile (a .wrapped) (a .file .now))) (length (a .out .now)) (sym (f .fits2 .ensures) ∙ not-true (f .fits2 .result) (c .before .if1 .taken))) (c .by .result) (c .by .ensures)
 
 put-head-requires : tie.Need-put-head-requires
 put-head-requires c κs = let s = c .before in room (headLines (wires s)) (wrap s ++ (lines s ++ wrap s)) (text-left s)
@@ -112,7 +112,7 @@ returns-2 : tie.Need-returns-2
 returns-2 c = let f = c .before in
     let got = f .before .before in
     let a = got .before .before .before .args in
-    file-fails (a .wrapped) (a .file .now) (a .out .now) (f .refusal .given .0 .0) (read-refuses 0 (a .file .now) (got .read .result) (got .read .ensures) (f .refusal .given .0 .0) (f .refusal .given .1))
+    earlier-fails (fileChecks 0 (a .file .now)) (listingOfFile (a .wrapped) (a .file .now)) (a .out .now) (f .refusal .given .0 .0) (read-refuses 0 (a .file .now) (got .read .result) (got .read .ensures) (f .refusal .given .0 .0) (f .refusal .given .1))
 
 same-length : tie.Need-same-length
 same-length c = search needs
@@ -122,7 +122,7 @@ returns-3 c = let p = c .before .before in
     let g = listed p in
     let s = checked (headed (wrapped g)) in
     let a = begin s .args in
-    answered (a .wrapped) (a .file .now) (a .out .now) (good (found s) .passes) (fitting s) (p .put-wrap2 .result) (p .put-wrap2 .last .1 .1 .0) (all-written (behind-gates g) (p .put-wrap2 .ensures))
+    answered (fileChecks 0 (a .file .now)) (text s) (a .out .now) (good (found s) .passes) (fitting s) (p .put-wrap2 .result) (p .put-wrap2 .last .1 .1 .0) (all-written (behind-gates g) (p .put-wrap2 .ensures))
 
 pub list-spec : {M : Type 1} → statement M
 list-spec =
