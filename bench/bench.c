@@ -26,7 +26,7 @@ static u32 below(u32 n) {
 }
 
 #define FILE_ROOM 8208 /* 2,048 gates and a little more */
-#define LIST_ROOM 65632
+#define LIST_ROOM 65600
 
 typedef struct { __attribute__((aligned(64))) u8 bytes[FILE_ROOM]; size_t len; } File;
 

@@ -1,4 +1,4 @@
--- 01, "Cases on each side": the cases marked (p), and the ten lines of "Listing". Each lends a slice that is just as long as the result.
+-- 01, "Cases on each side": the cases marked (p), and what "Listing" says of the program's inputs. Each lends a slice that is just as long as the result.
 use Prim.Native.Nat.{ℕ}
 use mathlib.Core.List.{List, [], _∷_}
 use lib.ListN.{length, replicate}
