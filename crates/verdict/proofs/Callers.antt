@@ -4,6 +4,8 @@ use mathlib.Core.Path.{_≡_, refl, sym, ap, _∙_}
 use mathlib.Core.Logic.{inr}
 use mathlib.Core.List.{List, _++_}
 use lib.ListN.{length, drop}
+use Rattle.numbers.specs.Turn.{difference}
+use Rattle.numbers.proofs.Lists.{length-list}
 use Rattle.refusal.specs.declared.Refusal.{Refusal}
 use Rattle.refusal.specs.Checks.{Outcome, passed, refused, outcome}
 use Rattle.refusal.specs.Contract.{Meets}
@@ -32,6 +34,11 @@ compared-distinct (Found x) (Found y) e = ap Found (verdict-distinct x y (cc))
 compared-distinct (Found x) (Refused s) e = cc
 compared-distinct (Refused r) (Found y) e = cc
 compared-distinct (Refused r) (Refused s) e = ap Refused (same-refusal r s e)
+
+-- what is written has 2^w entries
+pub length-differences : (w : ℕ) (c d : ℕ → ℕ) → length (differences w c d) ≡ 2 ^ w
+unfolding differences
+length-differences w c d = length-list (2 ^ w) (λ s. difference (c s) (d s))
 
 -- of an answer, whichever of the two operations gave it
 module _ (o : Outcome) (w : ℕ) (a b : Side) (result before : List ℕ) (answer : Compared) (after : List ℕ) (m : Meets comparedSays o (verdictValues (verdict w a b)) result before answer after) where

@@ -19,7 +19,7 @@ cast-result : tie.Need-cast-result
 cast-result c = search needs
 
 shl-result : tie.Need-shl-result
-shl-result c = omega (arith, subst (Sound 10) (c .before .before .gate .given .1) (start c .pre) .1)
+shl-result c = let s = subst (Sound 10) (c .before .before .gate .given .1) (start c .pre) in omega (arith, s .0, s .1)
 
 enum-told : tie.Need-enum-told
 enum-told c = search needs
