@@ -18,7 +18,8 @@ same-refusal r s e =
     let n : r .number ≡ s .number = cc in
     let d : r .side ≡ s .side = cc in
     let p : r .position ≡ s .position = cc in
-    λ i. record { number = n i; side = d i; position = p i }
+    let x : r .reason ≡ s .reason = cc in
+    λ i. record { number = n i; side = d i; position = p i; reason = x i }
 
 -- a refusal that is returned is the one that the checks give
 pub says-refused : (o : Outcome) (vs : List ℕ) (r : Refusal) → saidOf r ≡ settle o saidOf (values vs) → o ≡ refused r

@@ -1,4 +1,5 @@
 pub mod Outcomes
+pub mod Given
 pub mod Passed
 pub mod Contracts
 pub mod Rooms

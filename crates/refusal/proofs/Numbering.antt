@@ -9,7 +9,7 @@ use borrow.Author.Tests.{lt-ltb, le-ltb}
 use lib.Dec.{ltb}
 use Rattle.refusal.specs.declared.Refusal.{Refusal}
 use Rattle.refusal.specs.Checks.{Check, refused, outcome}
-use Rattle.refusal.proofs.Outcomes.{AllGive, given-by}
+use Rattle.refusal.proofs.Given.{AllGive, given-by}
 
 abbrev pub numbered : List Check → Bool
 numbered [] = true

@@ -1,7 +1,7 @@
 -- What a list of checks comes to: how a function shows it, going down the list with each test as a fact of numbers; and what follows from it for callers.
 use Prim.Native.Nat.{ℕ}
 use native.Mathlib.Omega.{arith}
-use mathlib.Core.Path.{_≡_, refl, sym, ap, subst, _∙_}
+use mathlib.Core.Path.{_≡_, refl, sym, ap, _∙_}
 use mathlib.Core.Logic.{_⊎_, inl, inr}
 use mathlib.Core.Bool.{Bool, true, false, not, cond}
 use mathlib.Core.List.{List, [], _∷_, _++_}
@@ -43,20 +43,6 @@ not-both p q = let z : _≡_ {A = ℕ} 0 1 = cc in omega arith
 
 pub one-refusal : {o : Outcome} {r s : Refusal} → o ≡ refused r → o ≡ refused s → r ≡ s
 one-refusal p q = cc
-
--- what holds of the refusal of every row holds of the one that is given
-abbrev pub AllGive : (Refusal → Type 0) → List Check → Type 0
-AllGive P [] = Unit {0}
-AllGive P (c ∷ cs) = P (c .gives) × AllGive P cs
-
-pub given-by : (P : Refusal → Type 0) (cs : List Check) → AllGive P cs → (r : Refusal) → outcome cs ≡ refused r → P r
-unfolding outcome
-given-by P [] h r e = absurd (not-both refl e)
-given-by P (c ∷ cs) h r e = by (holds (c .when)) e (given-by P cs (h .1) r)
-  where
-    by : (b : Bool) → cond b (refused (c .gives)) (outcome cs) ≡ refused r → (outcome cs ≡ refused r → P r) → P r
-    by true q rest = subst P (one-refusal refl q) (h .0)
-    by false q rest = rest q
 
 -- ---- one check before others
 

@@ -4,16 +4,9 @@ use native.Mathlib.Omega.{arith}
 use Prim.Native.Nat.{ℕ}
 use mathlib.Core.Bool.{Bool, true, false, cond}
 use mathlib.Core.List.{List, [], _∷_}
-use borrow.Author.Tests.{ltb-false, leb-false, eqb-false, eqb-true, not-false}
-use lib.Dec.{eqb}
-use Rattle.refusal.specs.Checks.{Test, less, atLeast, same, other, holds, Check, passed, refused, outcome, Fails, AllFail}
+use Rattle.refusal.specs.Checks.{holds, Check, passed, refused, outcome, Fails, AllFail}
 use Rattle.refusal.proofs.Outcomes.{holds-false}
-
-fails : (t : Test) → holds t ≡ false → Fails t
-fails (less a b) e = ltb-false a b e
-fails (atLeast a b) e = leb-false b a e
-fails (same a b) e = eqb-false a b e
-fails (other a b) e = eqb-true a b (not-false (eqb a b) e)
+use Rattle.refusal.proofs.Given.{false-fails}
 
 -- what callers of an operation know where it answers
 pub passed-fail : (cs : List Check) → outcome cs ≡ passed → AllFail cs
@@ -23,7 +16,7 @@ passed-fail (c ∷ cs) e = by (holds (c .when)) refl e (passed-fail cs)
   where
     by : (b : Bool) → holds (c .when) ≡ b → cond b (refused (c .gives)) (outcome cs) ≡ passed → (outcome cs ≡ passed → AllFail cs) → Fails (c .when) × AllFail cs
     by true p q rest = let z : _≡_ {A = ℕ} 0 1 = cc in absurd (omega arith)
-    by false p q rest = (fails (c .when) p, rest q)
+    by false p q rest = (false-fails (c .when) p, rest q)
 
 pub fail-passed : (cs : List Check) → AllFail cs → outcome cs ≡ passed
 unfolding outcome

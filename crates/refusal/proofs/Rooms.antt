@@ -8,7 +8,8 @@ use Rattle.refusal.specs.declared.Refusal.{Refusal}
 use Rattle.refusal.specs.Names.{refusal, ROOM}
 use Rattle.refusal.specs.Checks.{Check, Outcome, passed, refused, outcome, roomCheck}
 use Rattle.refusal.specs.Contract.{Said, values, saidOf, Meets}
-use Rattle.refusal.proofs.Outcomes.{reaches, either, given-by, then-refused, both-pass}
+use Rattle.refusal.proofs.Outcomes.{reaches, either, then-refused, both-pass}
+use Rattle.refusal.proofs.Given.{given-by}
 use Rattle.refusal.proofs.Contracts.{first-refuses, second-refuses, both-answer}
 
 enough-room : (room need : ℕ) → need ≤ room → outcome (roomCheck room need) ≡ passed

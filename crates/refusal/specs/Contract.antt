@@ -6,13 +6,13 @@ use lib.ListN.{length, drop}
 use Rattle.refusal.specs.declared.Refusal.{Refusal}
 use Rattle.refusal.specs.Checks.{Outcome, settle}
 
--- an answer in the paper's words: its values, or a refusal's number, side and position
+-- an answer in the paper's words: its values, or a refusal's number, side, position and reason
 pub data Said : Type 0 where
   values : List ℕ → Said
-  refuses : ℕ → ℕ → ℕ → Said
+  refuses : ℕ → ℕ → ℕ → ℕ → Said
 
 abbrev pub saidOf : Refusal → Said
-saidOf r = refuses (r .number) (r .side) (r .position)
+saidOf r = refuses (r .number) (r .side) (r .position) (r .reason)
 
 -- 01, "A refusal returns its number, the side .., and the position ..": else the values that are answered
 abbrev pub Says : {Answer : Type 0} → (Answer → Said) → Outcome → List ℕ → Answer → Type 0

@@ -41,9 +41,13 @@ UNLIKE = 12
 abbrev pub ROOM : ℕ
 ROOM = 13
 
--- "A refusal returns its number, the side .., and the position of the first bad gate (10 only, else 0)"
+-- "A refusal returns its number, the side .., and the position": of any number but 10
 abbrev pub refusalAt : ℕ → ℕ → ℕ → Refusal
-refusalAt n s p = record { number = n; side = s; position = p }
+refusalAt n s p = record { number = n; side = s; position = p; reason = 0 }
+
+-- "the position of the first bad gate (10 only, else 0)"; 02 §4, "Refusal 10 hands the reason on"
+abbrev pub badGate : ℕ → ℕ → ℕ → Refusal
+badGate s p x = record { number = GATE; side = s; position = p; reason = x }
 
 -- a refusal of the first or only input, with no gate to name
 abbrev pub refusal : ℕ → Refusal

@@ -29,11 +29,12 @@ pub const UNLIKE: u8 = 12;
 pub const ROOM: u8 = 13;
 
 // `side` says which of a call's several like inputs is refused, from 0; `position` is that of the
-// first bad gate, and 0 for every number but GATE.
+// first bad gate and `reason` what is wrong with it, both 0 for every number but GATE.
 pub struct Refusal {
     pub number: u8,
     pub side: u8,
     pub position: usize,
+    pub reason: u8,
 }
 
 // The refusal of a call's first or only input, with no gate to name.
@@ -44,5 +45,6 @@ pub fn by(number: u8) -> Refusal
         number,
         side: 0,
         position: 0,
+        reason: 0,
     }
 }

@@ -5,7 +5,7 @@ use mathlib.Core.Path.{_≡_, refl, ap}
 use mathlib.Core.List.{[], List}
 use Rattle.refusal.specs.declared.Refusal.{Refusal}
 use Rattle.refusal.specs.Checks.{passed, refused, outcome}
-use Rattle.refusal.proofs.Outcomes.{given-by}
+use Rattle.refusal.proofs.Given.{given-by}
 use Rattle.refusal.proofs.Passed.{passed-fail}
 use Rattle.refusal.proofs.Contracts.{Distinct, same-refusal, answers-values, answers-refusal}
 use Rattle.table.specs.declared.Checked.{Checked}
