@@ -3,21 +3,24 @@ use Prim.Native.Nat.{ℕ, zero, suc, _+_, _*_, _/_, _%_, _<_, _≤_}
 use native.Mathlib.Nat.{add-zero, add-suc, suc-add}
 use native.Mathlib.Decide.{decLt, ℕ-discrete}
 use native.Mathlib.Omega.{arith}
-use mathlib.Core.Bool.{true, false, cond}
+use mathlib.Core.Bool.{Bool, true, false, _||_, cond}
 use mathlib.Core.Path.{_≡_, refl, sym, ap, ap₂, subst, subst₂, _∙_}
 use mathlib.Core.Logic.{_⊎_, inl, inr}
 use mathlib.Core.List.{List, [], _∷_, _++_, append-nil, append-assoc}
 use lib.ListN.{length, getD, drop, length-drop}
 use lib.Seq.{drop-drop, getD-drop}
-use borrow.Author.Tests.{lt-ltb, le-ltb, le-leb, lt-leb, eq-eqb, ne-eqb}
+use borrow.Author.Tests.{le-leb, lt-leb, eq-eqb, ne-eqb}
 use Rattle.numbers.specs.Sums.{list}
 use Rattle.circuit.specs.declared.Gate.{Gate}
 use Rattle.circuit.specs.declared.Gate.the-variants.{Cnot, Phase}
 use Rattle.circuit.specs.declared.Placed.{Placed}
+use Rattle.circuit.specs.declared.Reason.{Reason}
+use Rattle.circuit.specs.declared.Reason.the-variants.{Kind, Wire, Equal, Spare}
+use Rattle.circuit.specs.declared.Decoded.{Decoded}
 use Rattle.circuit.specs.declared.Decoded.the-variants.{Good, Bad}
 use Rattle.circuit.specs.Bytes.{Bytes}
-use Rattle.circuit.specs.Gates.{good, decoded, decodedAt, firstBad, gatesFrom, gateBytes, bytesOf}
-use Rattle.circuit.specs.Working.{bad, gateSaid, Sound, AllSound}
+use Rattle.circuit.specs.Gates.{badKind, badWire, equalWires, badSpare, gateSaid, good, decoded, decodedAt, firstBad, gatesFrom, gateBytes, bytesOf}
+use Rattle.circuit.specs.Working.{bad, Sound, AllSound}
 
 pub bytes-drop : (n : ℕ) (bs : List ℕ) → Bytes bs → Bytes (drop n bs)
 bytes-drop n bs h i = rw (getD-drop n bs i 0) (h (n + i))
@@ -29,22 +32,22 @@ pub record Decodes (w p : ℕ) (bs : List ℕ) (g : Gate) : Type 0 where
   pub bytes : gateBytes g ≡ getD bs 0 0 ∷ getD bs 1 0 ∷ getD bs 2 0 ∷ getD bs 3 0 ∷ []
 
 abbrev Four : ℕ → ℕ → ℕ → ℕ → ℕ → ℕ → Type 0
-Four w p k a b c = (decoded w p k a b c ≡ Bad) ⊎ ((g : Gate) × Decodes w p (k ∷ a ∷ b ∷ c ∷ []) g)
+Four w p k a b c = ((x : Reason) × (decoded w p k a b c ≡ Bad x)) ⊎ ((g : Gate) × Decodes w p (k ∷ a ∷ b ∷ c ∷ []) g)
 
 cnot-four : (w p a b c : ℕ) → Four w p 1 a b c
 unfolding decoded
 cnot-four w p a b c = by (decLt a w) (decLt b w) (ℕ-discrete a b) (ℕ-discrete c 0)
   where
     by : Dec (a < w) → Dec (b < w) → Dec (a ≡ b) → Dec (c ≡ 0) → Four w p 1 a b c
-    by (no h) i j k = inl (rw (le-ltb a w (omega arith)))
-    by (yes h) (no i) j k = inl (rw (lt-ltb a w h, le-ltb b w (omega arith)))
-    by (yes h) (yes i) (yes j) k = inl (rw (lt-ltb a w h, lt-ltb b w i, eq-eqb a b j))
-    by (yes h) (yes i) (no j) (no k) = inl (rw (lt-ltb a w h, lt-ltb b w i, ne-eqb a b j, ne-eqb c 0 k))
+    by (no h) i j k = inl (Wire, rw (le-leb w a (omega arith)))
+    by (yes h) (no i) j k = inl (Wire, rw (lt-leb w a h, le-leb w b (omega arith)))
+    by (yes h) (yes i) (yes j) k = inl (Equal, rw (lt-leb w a h, lt-leb w b i, eq-eqb a b j))
+    by (yes h) (yes i) (no j) (no k) = inl (Spare, rw (lt-leb w a h, lt-leb w b i, ne-eqb a b j, ne-eqb c 0 k))
     by (yes h) (yes i) (no j) (yes k) =
         inr (
           Cnot a b,
           record {
-            answer = rw (lt-ltb a w h, lt-ltb b w i, ne-eqb a b j, eq-eqb c 0 k);
+            answer = rw (lt-leb w a h, lt-leb w b i, ne-eqb a b j, eq-eqb c 0 k);
             sound = (h, i, j);
             bytes = ap (λ (n : ℕ). 1 ∷ a ∷ b ∷ n ∷ []) (sym k);
           },
@@ -55,12 +58,12 @@ unfolding decoded
 phase-four w p a b c hb hc = by (decLt a w)
   where
     by : Dec (a < w) → Four w p 2 a b c
-    by (no h) = inl (rw (le-ltb a w (omega arith)))
+    by (no h) = inl (Wire, rw (le-leb w a (omega arith)))
     by (yes h) =
         inr (
           Phase a (b * 256 + c),
           record {
-            answer = rw (lt-ltb a w h);
+            answer = rw (lt-leb w a h);
             sound = (h, omega arith);
             bytes = ap₂ (λ (m n : ℕ). 2 ∷ a ∷ m ∷ n ∷ []) (omega arith) (omega arith);
           },
@@ -74,7 +77,7 @@ four-bytes w p k a b c hb hc = by (ℕ-discrete k 1) (ℕ-discrete k 2)
     by : Dec (k ≡ 1) → Dec (k ≡ 2) → Four w p k a b c
     by (yes e) d = rw e (cnot-four w p a b c)
     by (no e) (yes d) = rw d (phase-four w p a b c hb hc)
-    by (no e) (no d) = inl (rw (ne-eqb k 1 e, ne-eqb k 2 d))
+    by (no e) (no d) = inl (Kind, rw (ne-eqb k 1 e, ne-eqb k 2 d))
 
 -- the writer undoes the decoder
 pub bytes-decoded : (w p k a b c : ℕ) (q : Placed) → b < 256 → c < 256 → decoded w p k a b c ≡ Good q
@@ -82,7 +85,7 @@ pub bytes-decoded : (w p k a b c : ℕ) (q : Placed) → b < 256 → c < 256 →
 bytes-decoded w p k a b c q hb hc e = by (four-bytes w p k a b c hb hc)
   where
     by : Four w p k a b c → (gateBytes (q .gate) ≡ k ∷ a ∷ b ∷ c ∷ []) × (q .position ≡ p) × Sound w (q .gate)
-    by (inl d) = let z : _≡_ {A = ℕ} 0 1 = cc in absurd (omega arith)
+    by (inl (x, d)) = let z : _≡_ {A = ℕ} 0 1 = cc in absurd (omega arith)
     by (inr d) =
         let r : q ≡ record { position = p; gate = d .0 } = cc (e, d .1 .answer) in
         rw r (d .1 .bytes, refl, d .1 .sound)
@@ -100,50 +103,68 @@ bytes-said (Phase i n) k a b c e =
     let z : i ≡ a = cc e in
     rw (ne-eqb k 1 (λ r. omega arith)) (ap₂ Phase z q)
 
--- the decoder asks whether the bytes are bad, and takes the gate that they say
-cnot-by : (w p a b c : ℕ) → decoded w p 1 a b c ≡ cond (bad w 1 a b c) Bad (good p (gateSaid 1 a b c))
-unfolding decoded
-cnot-by w p a b c = by (decLt a w) (decLt b w) (ℕ-discrete a b) (ℕ-discrete c 0)
-  where
-    by : Dec (a < w) → Dec (b < w) → Dec (a ≡ b) → Dec (c ≡ 0) → decoded w p 1 a b c ≡ cond (bad w 1 a b c) Bad (good p (gateSaid 1 a b c))
-    by (no h) i j k = rw (le-ltb a w (omega arith), le-leb w a (omega arith))
-    by (yes h) (no i) j k = rw (lt-ltb a w h, lt-leb w a h, le-ltb b w (omega arith), le-leb w b (omega arith))
-    by (yes h) (yes i) (yes j) k = rw (lt-ltb a w h, lt-leb w a h, lt-ltb b w i, lt-leb w b i, eq-eqb a b j)
-    by (yes h) (yes i) (no j) (no k) = rw (lt-ltb a w h, lt-leb w a h, lt-ltb b w i, lt-leb w b i, ne-eqb a b j, ne-eqb c 0 k)
-    by (yes h) (yes i) (no j) (yes k) = rw (lt-ltb a w h, lt-leb w a h, lt-ltb b w i, lt-leb w b i, ne-eqb a b j, eq-eqb c 0 k)
+-- the decoder's answer, going down its tests
+module _ (w p k a b c : ℕ) where
+  pub bad-kind : badKind k ≡ true → decoded w p k a b c ≡ Bad Kind
+  unfolding decoded
+  bad-kind e = rw e
 
-phase-by : (w p a b c : ℕ) → decoded w p 2 a b c ≡ cond (bad w 2 a b c) Bad (good p (gateSaid 2 a b c))
-unfolding decoded
-phase-by w p a b c = by (decLt a w)
-  where
-    by : Dec (a < w) → decoded w p 2 a b c ≡ cond (bad w 2 a b c) Bad (good p (gateSaid 2 a b c))
-    by (no h) = rw (le-ltb a w (omega arith), le-leb w a (omega arith))
-    by (yes h) = rw (lt-ltb a w h, lt-leb w a h)
+  module _ (h : badKind k ≡ false) where
+    pub bad-wire : badWire w k a b ≡ true → decoded w p k a b c ≡ Bad Wire
+    unfolding decoded
+    bad-wire e = rw (h, e)
 
-pub decoded-by : (w p k a b c : ℕ) → decoded w p k a b c ≡ cond (bad w k a b c) Bad (good p (gateSaid k a b c))
-unfolding decoded
-decoded-by w p k a b c = by (ℕ-discrete k 1) (ℕ-discrete k 2)
-  where
-    by : Dec (k ≡ 1) → Dec (k ≡ 2) → decoded w p k a b c ≡ cond (bad w k a b c) Bad (good p (gateSaid k a b c))
-    by (yes e) d = rw e (cnot-by w p a b c)
-    by (no e) (yes d) = rw d (phase-by w p a b c)
-    by (no e) (no d) = rw (ne-eqb k 1 e, ne-eqb k 2 d)
+    module _ (i : badWire w k a b ≡ false) where
+      pub equal-wires : equalWires k a b ≡ true → decoded w p k a b c ≡ Bad Equal
+      unfolding decoded
+      equal-wires e = rw (h, i, e)
 
-pub is-bad : (w p k a b c : ℕ) → bad w k a b c ≡ true → decoded w p k a b c ≡ Bad
-is-bad w p k a b c e = decoded-by w p k a b c ∙ rw e
+      module _ (j : equalWires k a b ≡ false) where
+        pub bad-spare : badSpare k c ≡ true → decoded w p k a b c ≡ Bad Spare
+        unfolding decoded
+        bad-spare e = rw (h, i, j, e)
 
-pub is-good : (w p k a b c : ℕ) → bad w k a b c ≡ false → decoded w p k a b c ≡ good p (gateSaid k a b c)
-is-good w p k a b c e = decoded-by w p k a b c ∙ rw e
+        pub no-fault : badSpare k c ≡ false → decoded w p k a b c ≡ good p (gateSaid k a b c)
+        unfolding decoded
+        no-fault e = rw (h, i, j, e)
+
+-- four tests in turn: where none holds the gate is good, and where one does it is bad for some reason
+abbrev tried : Bool → Bool → Bool → Bool → Decoded → Decoded
+tried k w e s d = cond k (Bad Kind) (cond w (Bad Wire) (cond e (Bad Equal) (cond s (Bad Spare) d)))
+
+some-hold : (k w e s : Bool) (d : Decoded) → ((k || w) || e) || s ≡ true → (x : Reason) × (tried k w e s d ≡ Bad x)
+some-hold true w e s d h = (Kind, refl)
+some-hold false true e s d h = (Wire, refl)
+some-hold false false true s d h = (Equal, refl)
+some-hold false false false true d h = (Spare, refl)
+some-hold false false false false d h = let z : _≡_ {A = ℕ} 0 1 = cc in absurd (omega arith)
+
+none-hold : (k w e s : Bool) (d : Decoded) → ((k || w) || e) || s ≡ false → tried k w e s d ≡ d
+none-hold true w e s d h = let z : _≡_ {A = ℕ} 0 1 = cc in absurd (omega arith)
+none-hold false true e s d h = let z : _≡_ {A = ℕ} 0 1 = cc in absurd (omega arith)
+none-hold false false true s d h = let z : _≡_ {A = ℕ} 0 1 = cc in absurd (omega arith)
+none-hold false false false true d h = let z : _≡_ {A = ℕ} 0 1 = cc in absurd (omega arith)
+none-hold false false false false d h = refl
+
+-- the decoder's answer where the bytes are bad, and where they are not
+module _ (w p k a b c : ℕ) where
+  pub is-bad : bad w k a b c ≡ true → (x : Reason) × (decoded w p k a b c ≡ Bad x)
+  unfolding decoded
+  is-bad = some-hold (badKind k) (badWire w k a b) (equalWires k a b) (badSpare k c) (good p (gateSaid k a b c))
+
+  pub is-good : bad w k a b c ≡ false → decoded w p k a b c ≡ good p (gateSaid k a b c)
+  unfolding decoded
+  is-good = none-hold (badKind k) (badWire w k a b) (equalWires k a b) (badSpare k c) (good p (gateSaid k a b c))
 
 -- the decoder undoes the writer
 pub decoded-bytes : (w p : ℕ) (g : Gate) (rest : List ℕ) → Sound w g → decodedAt w p (gateBytes g ++ rest) ≡ good p g
 unfolding decoded
-decoded-bytes w p (Cnot c t) rest h = rw (lt-ltb c w (h .0), lt-ltb t w (h .1), ne-eqb c t (h .2))
-decoded-bytes w p (Phase i a) rest h = rw (lt-ltb i w (h .0)) (ap (λ (n : ℕ). good p (Phase i n)) (omega arith))
+decoded-bytes w p (Cnot c t) rest h = rw (lt-leb w c (h .0), lt-leb w t (h .1), ne-eqb c t (h .2))
+decoded-bytes w p (Phase i a) rest h = rw (lt-leb w i (h .0)) (ap (λ (n : ℕ). good p (Phase i n)) (omega arith))
 
-pub first-bad : (w n p : ℕ) (bs : List ℕ) → decodedAt w p bs ≡ Bad → firstBad w (suc n) p bs ≡ p
+pub first-bad : (w n p : ℕ) (bs : List ℕ) (x : Reason) → decodedAt w p bs ≡ Bad x → firstBad w (suc n) p bs ≡ p
 unfolding firstBad
-first-bad w n p bs e = rw e
+first-bad w n p bs x e = rw e
 
 pub first-good : (w n p : ℕ) (bs : List ℕ) (q : Placed) → decodedAt w p bs ≡ Good q → firstBad w (suc n) p bs ≡ firstBad w n (suc p) (drop 4 bs)
 unfolding firstBad
@@ -160,7 +181,7 @@ next-gate w n p bs h k = by (four-bytes w p (getD bs 0 0) (getD bs 1 0) (getD bs
   where
     by : Four w p (getD bs 0 0) (getD bs 1 0) (getD bs 2 0) (getD bs 3 0)
         → (g : Gate) × Decodes w p bs g × (suc p + n ≤ firstBad w n (suc p) (drop 4 bs)) × (gatesFrom w (suc n) p bs ≡ g ∷ gatesFrom w n (suc p) (drop 4 bs))
-    by (inl e) = let q = first-bad w n p bs e in absurd (omega arith)
+    by (inl (x, e)) = let q = first-bad w n p bs x e in absurd (omega arith)
     by (inr d) =
         let g = d .0 in
         let q = first-good w n p bs (record { position = p; gate = g }) (d .1 .answer) in

@@ -14,8 +14,9 @@ use Rattle.circuit.specs.declared.Gate.{Gate}
 use Rattle.circuit.specs.declared.Gate.the-variants.{Phase}
 use Rattle.circuit.specs.declared.Decoded.{Decoded}
 use Rattle.circuit.specs.declared.Decoded.the-variants.{Bad}
-use Rattle.circuit.specs.Gates.{good, decoded, decodedAt, gateBytes, bytesOf, gatesFrom, firstBad}
-use Rattle.circuit.specs.Working.{bad, gateSaid, fourAt, saidAt, Sound, AllSound}
+use Rattle.circuit.specs.declared.Reason.the-variants.{Kind}
+use Rattle.circuit.specs.Gates.{gateSaid, good, decoded, decodedAt, gateBytes, bytesOf, gatesFrom, firstBad}
+use Rattle.circuit.specs.Working.{bad, fourAt, saidAt, Sound, AllSound}
 use Rattle.circuit.specs.File.{wiresOf, countOf, gatesOf, gateAt, fileChecks, fileOf}
 use Rattle.circuit.specs.Bytes.{Bytes}
 use Rattle.circuit.proofs.Callers.{GoodFile, file-passes}
@@ -34,7 +35,7 @@ module _ (f : List ℕ) (i : ℕ) where
     pub four-said : (g : Gate) → g ≡ gateSaid (getD b 0 0) (getD b 1 0) (getD b 2 0) (getD b 3 0) → g ≡ saidAt f i
     four-said g p = p ∙ rw (e, le-leb (12 + 4 * i) (length f) h)
 
-  pub gate-outside : length f < 12 + 4 * i → gateAt f i ≡ Bad
+  pub gate-outside : length f < 12 + 4 * i → gateAt f i ≡ Bad Kind
   gate-outside h = rw (lt-leb (12 + 4 * i) (length f) h)
 
   pub said-outside : length f < 12 + 4 * i → saidAt f i ≡ Phase 0 0
@@ -50,8 +51,8 @@ module _ (f : List ℕ) (n i : ℕ) (k : i < n) (b : List ℕ) (e : b ≡ fourAt
 
   pub search-stops : bad (wiresOf f) (getD b 0 0) (getD b 1 0) (getD b 2 0) (getD b 3 0) ≡ true → firstBad (wiresOf f) (n - i) i (drop (8 + 4 * i) f) ≡ i
   search-stops x =
-      ap (λ (m : ℕ). firstBad (wiresOf f) m i (drop (8 + 4 * i) f)) more
-      ∙ first-bad (wiresOf f) (n - suc i) i (drop (8 + 4 * i) f) (four-here ∙ is-bad (wiresOf f) i (getD b 0 0) (getD b 1 0) (getD b 2 0) (getD b 3 0) x)
+      let r = is-bad (wiresOf f) i (getD b 0 0) (getD b 1 0) (getD b 2 0) (getD b 3 0) x in
+      ap (λ (m : ℕ). firstBad (wiresOf f) m i (drop (8 + 4 * i) f)) more ∙ first-bad (wiresOf f) (n - suc i) i (drop (8 + 4 * i) f) (r .0) (four-here ∙ r .1)
 
   pub search-goes-on : bad (wiresOf f) (getD b 0 0) (getD b 1 0) (getD b 2 0) (getD b 3 0) ≡ false
       → firstBad (wiresOf f) (n - i) i (drop (8 + 4 * i) f) ≡ firstBad (wiresOf f) (n - (i + 1)) (i + 1) (drop (8 + 4 * (i + 1)) f)

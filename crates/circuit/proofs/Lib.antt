@@ -2,6 +2,7 @@ pub mod Callers
 pub mod Decoding
 pub mod Files
 mod Checking
+pub mod FirstBad
 pub mod Writing
 pub mod Parts
 pub mod FileBytes

@@ -4,15 +4,16 @@ use mathlib.Core.Bool.{cond}
 use mathlib.Core.List.{List, [], _∷_, _++_}
 use lib.Dec.{leb}
 use lib.ListN.{length, getD, drop}
-use Rattle.refusal.specs.Names.{refusalAt, SHORT, MARK, VERSION, WIRES, COUNT, LENGTH, GATE}
+use Rattle.refusal.specs.Names.{refusalAt, badGate, SHORT, MARK, VERSION, WIRES, COUNT, LENGTH}
 use Rattle.refusal.specs.Checks.{Check, check, less, same, other, outcome}
 use Rattle.refusal.specs.Contract.{Said, values, saidOf, Says}
 use Rattle.circuit.specs.declared.Gate.{Gate}
 use Rattle.circuit.specs.declared.Decoded.{Decoded}
 use Rattle.circuit.specs.declared.Decoded.the-variants.{Bad}
+use Rattle.circuit.specs.declared.Reason.the-variants.{Kind}
 use Rattle.circuit.specs.declared.Reading.{Reading}
 use Rattle.circuit.specs.declared.Reading.the-variants.{Circuit, Refused}
-use Rattle.circuit.specs.Gates.{decodedAt, firstBad, gatesFrom, bytesOf}
+use Rattle.circuit.specs.Gates.{decodedAt, reasonOf, firstBad, gatesFrom, bytesOf}
 
 -- "Bytes 50 48 47 ("PHG"), version 1 (16 bits), wires (1 byte), gate count (16 bits), then 4 bytes a gate; high byte first"
 abbrev pub markOf : List ℕ → ℕ
@@ -35,9 +36,13 @@ gatesOf f = gatesFrom (wiresOf f) (countOf f) 0 (drop 8 f)
 abbrev pub badOf : List ℕ → ℕ
 badOf f = firstBad (wiresOf f) (countOf f) 0 (drop 8 f)
 
--- the i-th four bytes after the header, as the gate at position i; bad where they do not all lie in the file
+-- the i-th four bytes after the header, as the gate at position i; without a kind where they do not all lie in the file
 abbrev pub gateAt : List ℕ → ℕ → Decoded
-gateAt f i = cond (leb (12 + 4 * i) (length f)) (decodedAt (wiresOf f) i (drop (8 + 4 * i) f)) Bad
+gateAt f i = cond (leb (12 + 4 * i) (length f)) (decodedAt (wiresOf f) i (drop (8 + 4 * i) f)) (Bad Kind)
+
+-- 02 §4: the reason of the gate at position i
+abbrev pub reasonAt : List ℕ → ℕ → ℕ
+reasonAt f i = reasonOf (gateAt f i)
 
 -- rows 4 to 10 of the table, for the file that is given as side s
 abbrev pub fileChecks : ℕ → List ℕ → List Check
@@ -49,7 +54,7 @@ fileChecks s f =
     ∷ check (less 10 (wiresOf f)) (refusalAt WIRES s 0)
     ∷ check (less 2048 (countOf f)) (refusalAt COUNT s 0)
     ∷ check (other (length f) (8 + 4 * countOf f)) (refusalAt LENGTH s 0)
-    ∷ check (less (badOf f) (countOf f)) (refusalAt GATE s (badOf f))
+    ∷ check (less (badOf f) (countOf f)) (badGate s (badOf f) (reasonAt f (badOf f)))
     ∷ []
 
 -- "Bytes 50 48 47 .., version 1 .., wires .., gate count ..; high byte first"

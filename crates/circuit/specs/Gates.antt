@@ -1,29 +1,60 @@
--- 01, "Circuit file": a gate's four bytes, which of them are bad, and the gates of a row of bytes.
+-- 01, "Circuit file": a gate's four bytes, which of them are bad and why, and the gates of a row of bytes.
 use Prim.Native.Nat.{ℕ, zero, suc, _+_, _*_, _/_, _%_}
-use mathlib.Core.Bool.{cond}
+use mathlib.Core.Bool.{Bool, not, _||_, _&&_, cond}
 use mathlib.Core.List.{List, [], _∷_, _++_}
-use lib.Dec.{ltb, eqb}
+use lib.Dec.{leb, eqb}
 use lib.ListN.{getD, drop}
 use Rattle.circuit.specs.declared.Gate.{Gate}
 use Rattle.circuit.specs.declared.Gate.the-variants.{Cnot, Phase}
+use Rattle.circuit.specs.declared.Reason.{Reason}
+use Rattle.circuit.specs.declared.Reason.the-variants.{Kind, Wire, Equal, Spare}
 use Rattle.circuit.specs.declared.Decoded.{Decoded}
 use Rattle.circuit.specs.declared.Decoded.the-variants.{Good, Bad}
 
+-- "A gate is bad if its kind is neither 1 nor 2, .."
+abbrev pub badKind : ℕ → Bool
+badKind kind = not (eqb kind 1) && not (eqb kind 2)
+
+-- ".. a wire isn't below w, ..": the second byte, and of a CNOT the third too
+abbrev pub badWire : ℕ → ℕ → ℕ → ℕ → Bool
+badWire w kind a b = leb w a || (eqb kind 1 && leb w b)
+
+-- ".. control equals target, .."
+abbrev pub equalWires : ℕ → ℕ → ℕ → Bool
+equalWires kind a b = eqb kind 1 && eqb a b
+
+-- ".. or a CNOT's last byte isn't 0."; 02 §4, "the spare byte only for a CNOT"
+abbrev pub badSpare : ℕ → ℕ → Bool
+badSpare kind c = eqb kind 1 && not (eqb c 0)
+
+-- "CNOT: 01, control, target, 00. Phase: 02, wire, angle in 16 bits", "high byte first": the gate that four bytes say, where they are good
+abbrev pub gateSaid : ℕ → ℕ → ℕ → ℕ → Gate
+gateSaid kind a b c = cond (eqb kind 1) (Cnot a b) (Phase a (b * 256 + c))
+
+-- "held with its position from 0"
 abbrev pub good : ℕ → Gate → Decoded
 good p g = Good (record { position = p; gate = g })
 
--- "CNOT: 01, control, target, 00": "bad if .. a wire isn't below w, control equals target, or a CNOT's last byte isn't 0"
-abbrev pub cnotOf : ℕ → ℕ → ℕ → ℕ → ℕ → Decoded
-cnotOf w p c t spare =
-    cond (ltb c w) (cond (ltb t w) (cond (eqb c t) Bad (cond (eqb spare 0) (good p (Cnot c t)) Bad)) Bad) Bad
-
--- "Phase: 02, wire, angle in 16 bits", "high byte first"; "The zero angle is good"
-abbrev pub phaseOf : ℕ → ℕ → ℕ → ℕ → ℕ → Decoded
-phaseOf w p i high low = cond (ltb i w) (good p (Phase i (high * 256 + low))) Bad
-
--- "A gate is bad if its kind is neither 1 nor 2", or as above; a good one is "held with its position"
+-- 02 §4, "The gate decoder answers its reason: kind, wire, equal wires, spare byte, tried in that order"; 01, "The zero angle is good."
 unfoldable pub decoded : ℕ → ℕ → ℕ → ℕ → ℕ → ℕ → Decoded
-decoded w p kind a b c = cond (eqb kind 1) (cnotOf w p a b c) (cond (eqb kind 2) (phaseOf w p a b c) Bad)
+decoded w p kind a b c =
+    cond (badKind kind) (Bad Kind)
+    (cond (badWire w kind a b) (Bad Wire)
+    (cond (equalWires kind a b) (Bad Equal)
+    (cond (badSpare kind c) (Bad Spare)
+    (good p (gateSaid kind a b c)))))
+
+-- 02 §4: the reasons by number, in its order
+abbrev pub reasonNumber : Reason → ℕ
+reasonNumber Kind = 1
+reasonNumber Wire = 2
+reasonNumber Equal = 3
+reasonNumber Spare = 4
+
+-- the number of what is wrong with a gate; 0 where it is good
+abbrev pub reasonOf : Decoded → ℕ
+reasonOf (Good g) = 0
+reasonOf (Bad x) = reasonNumber x
 
 -- the next four bytes as the gate at position p
 abbrev pub decodedAt : ℕ → ℕ → List ℕ → Decoded
@@ -31,7 +62,7 @@ decodedAt w p bs = decoded w p (getD bs 0 0) (getD bs 1 0) (getD bs 2 0) (getD b
 
 abbrev pub firstIf : Decoded → ℕ → ℕ → ℕ
 firstIf (Good g) p rest = rest
-firstIf Bad p rest = p
+firstIf (Bad x) p rest = p
 
 -- "the position of the first bad gate" of n from position p on; p + n where none is bad
 unfoldable pub firstBad : ℕ → ℕ → ℕ → List ℕ → ℕ
@@ -40,7 +71,7 @@ firstBad w (suc n) p bs = firstIf (decodedAt w p bs) p (firstBad w n (suc p) (dr
 
 abbrev pub consIf : Decoded → List Gate → List Gate
 consIf (Good g) gs = g .gate ∷ gs
-consIf Bad gs = gs
+consIf (Bad x) gs = gs
 
 -- the gates of n fours of bytes, in order
 unfoldable pub gatesFrom : ℕ → ℕ → ℕ → List ℕ → List Gate

@@ -1,25 +1,18 @@
 -- A gate's bytes as the code takes them, walks over gates, and what is written at a place.
 use Prim.Native.Nat.{ℕ, _+_, _*_, _<_}
 use mathlib.Core.Path.{_≡_}
-use mathlib.Core.Bool.{Bool, not, _||_, _&&_, cond}
+use mathlib.Core.Bool.{Bool, _||_, cond}
 use mathlib.Core.List.{List, [], _∷_, _++_}
-use lib.Dec.{leb, eqb}
+use lib.Dec.{leb}
 use lib.ListN.{length, getD}
 use Rattle.circuit.specs.Bytes.{putAt}
 use Rattle.circuit.specs.declared.Gate.{Gate}
 use Rattle.circuit.specs.declared.Gate.the-variants.{Cnot, Phase}
+use Rattle.circuit.specs.Gates.{badKind, badWire, equalWires, badSpare, gateSaid}
 
--- what makes a CNOT's last three bytes bad on w wires
-abbrev pub badCnot : ℕ → ℕ → ℕ → ℕ → Bool
-badCnot w c t spare = ((leb w c || leb w t) || eqb c t) || not (eqb spare 0)
-
--- what makes four bytes bad on w wires
+-- whether four bytes are bad on w wires, for whatever reason
 abbrev pub bad : ℕ → ℕ → ℕ → ℕ → ℕ → Bool
-bad w kind a b c = (not (eqb kind 1) || badCnot w a b c) && (not (eqb kind 2) || leb w a)
-
--- the gate that four bytes say, where they are good
-abbrev pub gateSaid : ℕ → ℕ → ℕ → ℕ → Gate
-gateSaid kind a b c = cond (eqb kind 1) (Cnot a b) (Phase a (b * 256 + c))
+bad w kind a b c = ((badKind kind || badWire w kind a b) || equalWires kind a b) || badSpare kind c
 
 -- the i-th four bytes after the header
 abbrev pub fourAt : List ℕ → ℕ → List ℕ

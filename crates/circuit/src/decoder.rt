@@ -1,11 +1,12 @@
-// A gate from its four bytes.
+// A gate from its four bytes, or the reason why they are none.
 use crate::Decoded;
 use crate::Gate;
 use crate::Placed;
+use crate::Reason;
 ghost use mathlib.Core.Path.{_≡_};
 ghost use Prim.Native.Nat.{_+_, _*_};
-ghost use Rattle.circuit.specs.Gates.{decoded};
-ghost use Rattle.circuit.specs.Working.{badCnot, bad, gateSaid};
+ghost use Rattle.circuit.specs.Gates.{badKind, badWire, equalWires, badSpare, gateSaid, decoded, reasonNumber, reasonOf};
+ghost use Rattle.circuit.specs.Working.{bad};
 
 // 16 bits, high byte first.
 pub(crate) fn sixteen_bits(high: u8, low: u8) -> u16
@@ -14,18 +15,35 @@ pub(crate) fn sixteen_bits(high: u8, low: u8) -> u16
     (high as u16) * 256 + (low as u16)
 }
 
-// Whether a CNOT's last three bytes are bad.
-fn is_bad_cnot(w: u8, control: u8, target: u8, spare: u8) -> bool
-    ensures { λ r. ⌜ r ≡ badCnot w control target spare ⌝ }
+fn bad_kind(kind: u8) -> bool
+    ensures { λ r. ⌜ r ≡ badKind kind ⌝ }
 {
-    (control >= w) | (target >= w) | (control == target) | (spare != 0)
+    (kind != 1) & (kind != 2)
+}
+
+fn bad_wire(w: u8, kind: u8, a: u8, b: u8) -> bool
+    ensures { λ r. ⌜ r ≡ badWire w kind a b ⌝ }
+{
+    (a >= w) | ((kind == 1) & (b >= w))
+}
+
+fn equal_wires(kind: u8, a: u8, b: u8) -> bool
+    ensures { λ r. ⌜ r ≡ equalWires kind a b ⌝ }
+{
+    (kind == 1) & (a == b)
+}
+
+fn bad_spare(kind: u8, c: u8) -> bool
+    ensures { λ r. ⌜ r ≡ badSpare kind c ⌝ }
+{
+    (kind == 1) & (c != 0)
 }
 
 // Whether four bytes are no gate on `w` wires. No branch depends on the kind: in a circuit it is hard to foretell.
 pub(crate) fn is_bad(w: u8, kind: u8, a: u8, b: u8, c: u8) -> bool
     ensures { λ r. ⌜ r ≡ bad w kind a b c ⌝ }
 {
-    ((kind != 1) | is_bad_cnot(w, a, b, c)) & ((kind != 2) | (a >= w))
+    bad_kind(kind) | bad_wire(w, kind, a, b) | equal_wires(kind, a, b) | bad_spare(kind, c)
 }
 
 // The gate of four bytes that are good.
@@ -42,13 +60,44 @@ pub(crate) fn gate_of(kind: u8, a: u8, b: u8, c: u8) -> Gate
     Gate::Phase { wire: a, angle }
 }
 
-// The gate of four bytes on `w` wires, or that it is bad.
+// The gate of four bytes on `w` wires, or the first of the four reasons why it is bad.
 pub fn decode(w: u8, position: usize, kind: u8, a: u8, b: u8, c: u8) -> Decoded
     ensures { λ r. ⌜ r ≡ decoded w position kind a b c ⌝ }
 {
-    if is_bad(w, kind, a, b, c) {
-        return Decoded::Bad;
+    if bad_kind(kind) {
+        return Decoded::Bad(Reason::Kind);
+    }
+    if bad_wire(w, kind, a, b) {
+        return Decoded::Bad(Reason::Wire);
+    }
+    if equal_wires(kind, a, b) {
+        return Decoded::Bad(Reason::Equal);
+    }
+    if bad_spare(kind, c) {
+        return Decoded::Bad(Reason::Spare);
     }
     let gate = gate_of(kind, a, b, c);
     Decoded::Good(Placed { position, gate })
+}
+
+// A reason's number.
+pub fn reason_number(reason: Reason) -> u8
+    ensures { λ r. ⌜ r ≡ reasonNumber reason ⌝ }
+{
+    match reason {
+        Reason::Kind => 1,
+        Reason::Wire => 2,
+        Reason::Equal => 3,
+        Reason::Spare => 4,
+    }
+}
+
+// The number of what is wrong with a gate, 0 where it is good.
+pub(crate) fn reason_of(gate: Decoded) -> u8
+    ensures { λ r. ⌜ r ≡ reasonOf gate ⌝ }
+{
+    match gate {
+        Decoded::Good(_) => 0,
+        Decoded::Bad(reason) => reason_number(reason),
+    }
 }

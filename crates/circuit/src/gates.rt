@@ -1,6 +1,7 @@
 // The gates of a file, by position.
 use crate::Decoded;
 use crate::Gate;
+use crate::Reason;
 use crate::decoder::decode;
 use crate::decoder::gate_of;
 ghost use mathlib.Core.Path.{_≡_};
@@ -29,12 +30,12 @@ pub(crate) fn four_at(file: &[u8], i: usize) -> [u8; 4]
     [file[at], file[at + 1], file[at + 2], file[at + 3]]
 }
 
-// The gate at position `i`, or that it is bad; bad where its bytes do not all lie in the file.
+// The gate at position `i`, or why it is bad; where its bytes do not all lie in the file it has no kind.
 pub fn gate_at(file: &[u8], i: usize) -> Decoded
     ensures { λ r. ⌜ r ≡ gateAt (now (file .entry)) i ⌝ }
 {
     if !lies_inside(file, i) {
-        return Decoded::Bad;
+        return Decoded::Bad(Reason::Kind);
     }
     let four = four_at(file, i);
     decode(file[5], i, four[0], four[1], four[2], four[3])

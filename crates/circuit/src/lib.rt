@@ -7,6 +7,7 @@ mod reader;
 mod writer;
 
 pub use decoder::decode;
+pub use decoder::reason_number;
 pub use gates::gate_at;
 pub use gates::good_gate;
 pub use reader::read;
@@ -26,9 +27,17 @@ pub struct Placed {
     pub gate: Gate,
 }
 
+// What is wrong with a bad gate: its kind, a wire, equal wires or the spare byte.
+pub enum Reason {
+    Kind,
+    Wire,
+    Equal,
+    Spare,
+}
+
 pub enum Decoded {
     Good(Placed),
-    Bad,
+    Bad(Reason),
 }
 
 // The reader's answer.

@@ -1,15 +1,18 @@
 // A file's checks.
 use crate::Reading;
 use crate::decoder::is_bad;
+use crate::decoder::reason_of;
 use crate::decoder::sixteen_bits;
 use crate::gates::four_at;
+use crate::gates::gate_at;
 use refusal::Refusal;
 ghost use mathlib.Core.Path.{_≡_};
 ghost use Prim.Native.Nat.{_+_, _*_, _≤_};
 ghost use lib.ListN.{length, drop};
+ghost use Rattle.refusal.specs.Names.{refusalAt, badGate};
 ghost use Rattle.circuit.specs.declared.Reading.the-variants.{Refused};
 ghost use Rattle.circuit.specs.Gates.{firstBad};
-ghost use Rattle.circuit.specs.File.{wiresOf, ReadsSide, Reads};
+ghost use Rattle.circuit.specs.File.{wiresOf, reasonAt, ReadsSide, Reads};
 
 // The position of the first bad gate, or `gates` where none is bad.
 fn first_bad(file: &[u8], gates: usize) -> usize
@@ -34,13 +37,27 @@ fn mark(high: u8, middle: u8, low: u8) -> u32
     ((high as u32) * 256 + (middle as u32)) * 256 + (low as u32)
 }
 
-fn refused(number: u8, side: u8, position: usize) -> Reading
-    ensures { λ r. ⌜ r ≡ Refused (record { number = number; side = side; position = position }) ⌝ }
+fn refused(number: u8, side: u8) -> Reading
+    ensures { λ r. ⌜ r ≡ Refused (refusalAt number side 0) ⌝ }
 {
     Reading::Refused(Refusal {
         number,
         side,
-        position,
+        position: 0,
+        reason: 0,
+    })
+}
+
+// The refusal for the bad gate at position `i`, with the decoder's reason.
+fn refused_gate(file: &[u8], side: u8, i: usize) -> Reading
+    ensures { λ r. ⌜ r ≡ Refused (badGate side i (reasonAt (now (file .entry)) i)) ⌝ }
+{
+    let reason = reason_of(gate_at(file, i));
+    Reading::Refused(Refusal {
+        number: refusal::GATE,
+        side,
+        position: i,
+        reason,
     })
 }
 
@@ -49,31 +66,31 @@ pub fn read_side(file: &[u8], side: u8) -> Reading
     ensures { λ r. ⌜ ReadsSide side (now (file .entry)) r ⌝ }
 {
     if file.len() < 8 {
-        return refused(refusal::SHORT, side, 0);
+        return refused(refusal::SHORT, side);
     }
     if mark(file[0], file[1], file[2]) != 0x504847 {
-        return refused(refusal::MARK, side, 0);
+        return refused(refusal::MARK, side);
     }
     if sixteen_bits(file[3], file[4]) != 1 {
-        return refused(refusal::VERSION, side, 0);
+        return refused(refusal::VERSION, side);
     }
     let wires = file[5];
     if wires == 0 {
-        return refused(refusal::WIRES, side, 0);
+        return refused(refusal::WIRES, side);
     }
     if wires > 10 {
-        return refused(refusal::WIRES, side, 0);
+        return refused(refusal::WIRES, side);
     }
     let gates = sixteen_bits(file[6], file[7]) as usize;
     if gates > 2048 {
-        return refused(refusal::COUNT, side, 0);
+        return refused(refusal::COUNT, side);
     }
     if file.len() != 8 + 4 * gates {
-        return refused(refusal::LENGTH, side, 0);
+        return refused(refusal::LENGTH, side);
     }
     let bad = first_bad(file, gates);
     if bad < gates {
-        return refused(refusal::GATE, side, bad);
+        return refused_gate(file, side, bad);
     }
     Reading::Circuit { wires, gates }
 }

@@ -5,8 +5,8 @@ use mathlib.Core.Logic.{inl, inr}
 use lib.ListN.{drop}
 use Rattle.refusal.specs.Checks.{Outcome}
 use Rattle.refusal.proofs.Outcomes.{Reaches}
-use Rattle.refusal.specs.Names.{refusalAt, SHORT, MARK, VERSION, WIRES, COUNT, LENGTH, GATE}
-use Rattle.circuit.specs.File.{wiresOf, fileChecks}
+use Rattle.refusal.specs.Names.{refusalAt, badGate, SHORT, MARK, VERSION, WIRES, COUNT, LENGTH}
+use Rattle.circuit.specs.File.{wiresOf, reasonAt, fileChecks}
 use Rattle.circuit.proofs.Checking.{refusing, answering, bad-gate, no-bad-gate}
 use borrow.Author.Needs.{needs}
 use Rattle.circuit.proofs.reader.read_side.Statement.{statement}
@@ -200,15 +200,15 @@ returns-7 c =
 first-bad-requires : tie.Need-first-bad-requires
 first-bad-requires c κs = search needs
 
-refused-requires-8 : tie.Need-refused-requires-8
-refused-requires-8 c κs = search needs
+refused-gate-requires : tie.Need-refused-gate-requires
+refused-gate-requires c κs = search needs
 
 returns-8 : tie.Need-returns-8
 returns-8 c =
     let a = from7 (c .before .before .before) .args in
     let g = counted (c .before .before .before) .sixteen-bits2 in
     let b = c .before .before .first-bad in
-    refusing (a .side) (a .file .now) (refusalAt GATE (a .side) (b .result)) (c .refused8 .result) (c .refused8 .ensures)
+    refusing (a .side) (a .file .now) (badGate (a .side) (b .result) (reasonAt (a .file .now) (b .result))) (c .refused-gate .result) (c .refused-gate .ensures)
     (past7 (c .before .before .before) (bad-gate (a .side) (a .file .now) (g .result) (b .result) (g .ensures) (b .ensures) (c .before .if8 .taken)))
 
 returns-9 : tie.Need-returns-9
@@ -252,6 +252,6 @@ read-side-spec =
     refused-requires-7
     returns-7
     first-bad-requires
-    refused-requires-8
+    refused-gate-requires
     returns-8
     returns-9)
