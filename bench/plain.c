@@ -40,6 +40,14 @@ static inline u32 is_bad(u32 x, u32 w) {
     return !(((kind == 2) | cnot) & (a < w));
 }
 
+/* What is wrong with a bad gate, as phg.h numbers it. */
+static u64 reason_of(u32 x, u32 w) {
+    u32 kind = x & 255, a = x >> 8 & 255, b = x >> 16 & 255;
+    if (kind != 1 && kind != 2) return PHG_REASON_KIND;
+    if (a >= w || (kind == 1 && b >= w)) return PHG_REASON_WIRE;
+    return a == b ? PHG_REASON_EQUAL : PHG_REASON_SPARE;
+}
+
 /* One pass over the gates without a branch on them, so that it vectorises; a second only where one is bad. Inlined, so
  * that a caller pays only for the counts that it uses. */
 static inline __attribute__((always_inline)) int file_refused(const u8 *f, size_t len, u64 side, Info *info, u64 *r) {
@@ -70,7 +78,7 @@ static inline __attribute__((always_inline)) int file_refused(const u8 *f, size_
     if (bad) {
         u32 i = 0;
         while (!is_bad(load32(g + 4 * i), w)) i++;
-        say(r, PHG_GATE, side, i, 0, 0, 0);
+        say(r, PHG_GATE, side, i, reason_of(load32(g + 4 * i), w), 0, 0);
         return 1;
     }
     info->w = w, info->gates = gates, info->cnots = cnots, info->score = score;

@@ -1,12 +1,13 @@
 /* An oracle by the archive: the table 08 of two variables (f(x) = x1 and x2) is built, folded, judged against its own
- * table and against another, and listed. examples/run builds and runs it. */
+ * table and against another, and listed; then two calls that are refused. examples/run builds and runs it. */
 #include "phg.h"
 
 int printf(const char *, ...); /* instead of <stdio.h>, which the kit's compiler does not have */
 
 static int refused(const char *what, const uint64_t answer[6]) {
     if (answer[0] == 0) return 0;
-    printf("%s: refused %d, side %d, position %d\n", what, (int)answer[0], (int)answer[1], (int)answer[2]);
+    printf("%s: refused %d, side %d, position %d, reason %d\n", what, (int)answer[0], (int)answer[1], (int)answer[2],
+           (int)answer[3]);
     return 1;
 }
 
@@ -43,6 +44,10 @@ int main(void) {
     phg_list(folded, folded_len, 1, text, sizeof text, answer);
     if (refused("list", answer)) return 1;
     printf("listed: %d bytes\n%.*s", (int)answer[1], (int)answer[1], (const char *)text);
+
+    folded[folded_len - 2] = folded[folded_len - 3]; /* the last CNOT's target is now its control */
+    phg_read(folded, folded_len, answer);
+    if (!refused("read of equal wires", answer) || answer[3] != PHG_REASON_EQUAL) return 1;
 
     phg_build(9, and_table, 1, built, sizeof built, answer);
     return refused("build of 9 variables", answer) ? 0 : 1;

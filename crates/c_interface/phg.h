@@ -14,8 +14,9 @@
  *
  * The six numbers. answer[0] is 0 on success, and the values follow in answer[1], answer[2], ... as each function
  * says. Otherwise answer[0] is the number of a refusal, answer[1] its side (which of a call's several like inputs is
- * refused, from 0: 1 for compare's second file) and answer[2] the position of the first bad gate (PHG_GATE only, else
- * 0). All six are written always; those not named are 0.
+ * refused, from 0: 1 for compare's second file), answer[2] the position of the first bad gate and answer[3] what is
+ * wrong with it, one of the reasons below (both PHG_GATE only, else 0). All six are written always; those not named
+ * are 0.
  *
  * A refusal writes nothing to out or work. Success writes the named front of it and leaves the rest as it was.
  * Checks are made in the order of the refusals' numbers, the table before a file, the first file before the second.
@@ -48,10 +49,16 @@ extern "C" {
 #define PHG_WIRES 7    /* wires are 0 or above 10 */
 #define PHG_COUNT 8    /* gate count above 2,048 */
 #define PHG_LENGTH 9   /* length is not 8 + 4 times count */
-#define PHG_GATE 10    /* some gate bad */
+#define PHG_GATE 10    /* some gate bad: the reasons below */
 #define PHG_STATE 11   /* start not below 2^w */
 #define PHG_UNLIKE 12  /* wire counts differ; in judge, w is not n + 1 */
 #define PHG_ROOM 13    /* out shorter than this call's result, or work than 2^w */
+
+/* What is wrong with a bad gate: of several faults the first in this order. */
+#define PHG_REASON_KIND 1   /* the kind is neither 1 nor 2 */
+#define PHG_REASON_WIRE 2   /* a wire is not below w */
+#define PHG_REASON_EQUAL 3  /* control equals target */
+#define PHG_REASON_SPARE 4  /* a CNOT's last byte is not 0 */
 
 /* Whether `table` is the packed table of a function of n variables. No values. Refusals: TABLE. */
 void phg_check(uint8_t n, const uint8_t *table, size_t table_len, uint64_t answer[6]);
@@ -64,7 +71,7 @@ void phg_spectrum(uint8_t n, const uint8_t *table, size_t table_len, int32_t *ou
                   uint64_t answer[6]);
 
 /* The gate of four bytes on w wires. answer[0] is its kind: 1 CNOT, then control and target; 2 phase, then wire and
- * angle; answer[3] is the position as given. A bad gate: six zeros. No refusals. */
+ * angle; answer[3] is the position as given. A bad gate: answer[0] is 0, [1]: its reason. No refusals. */
 void phg_decode(uint8_t w, size_t position, uint8_t kind, uint8_t a, uint8_t b, uint8_t c, uint64_t answer[6]);
 
 /* A file checked. answer[1]: wires, [2]: gates. Refusals: FILE. */

@@ -18,7 +18,7 @@ use Rattle.c_interface.specs.Numbers.{numbersOf, Tells, TellsAnswer}
 -- "answer points to six numbers"
 pub six-numbers : (s : Said) → length (numbersOf s) ≡ 6
 six-numbers (values vs) = ap suc (length-take-le 5 (vs ++ replicate 5 0) (omega (arith, length-append vs (replicate 5 0))))
-six-numbers (refuses n s p) = refl
+six-numbers (refuses n s p x) = refl
 
 module _ {Answer : Type 0} (said : Answer → Said) (cs : List Check) (vs : List ℕ) (ns : List ℕ) (t : TellsAnswer (Says said (outcome cs) vs) said ns) where
   pub told-values : outcome cs ≡ passed → ns ≡ numbersOf (values vs)
@@ -26,6 +26,10 @@ module _ {Answer : Type 0} (said : Answer → Said) (cs : List Check) (vs : List
 
   pub told-refusal : (r : Refusal) → outcome cs ≡ refused r → ns ≡ numbersOf (saidOf r)
   told-refusal r e = t .tells ∙ ap numbersOf (refused-refusal said (outcome cs) vs (t .answer) (t .meets) r e)
+
+  -- "answer[3] what is wrong with it"
+  pub told-reason : (r : Refusal) → outcome cs ≡ refused r → getD ns 3 0 ≡ r .reason
+  told-reason r e = ap (λ l. getD l 3 0) (told-refusal r e)
 
   -- "answer[0] is 0 on success .. Otherwise answer[0] is the number of a refusal"
   pub told-passed : numbered cs ≡ true → getD ns 0 0 ≡ 0 → outcome cs ≡ passed

@@ -28,7 +28,14 @@ ghost use Rattle.c_interface.specs.Numbers.{numbersOf, gateNumbers, deco
 fn refused(r: Refusal) -> [u64; 6]
     ensures { λ x. ⌜ x ≡ numbersOf (saidOf r) ⌝ }
 {
-    [r.number as u64, r.side as u64, r.position as u64, 0, 0, 0]
+    [
+        r.number as u64,
+        r.side as u64,
+        r.position as u64,
+        r.reason as u64,
+        0,
+        0,
+    ]
 }
 
 pub(crate) fn checked(answer: Checked) -> [u64; 6]
@@ -57,7 +64,7 @@ pub(crate) fn decoded(answer: Decoded) -> [u64; 6]
             let gate = placed.gate;
             gate_numbers(placed.position as u64, gate)
         }
-        Decoded::Bad => [0, 0, 0, 0, 0, 0],
+        Decoded::Bad(reason) => [0, circuit::reason_number(reason) as u64, 0, 0, 0, 0],
     }
 }
 

@@ -1,6 +1,6 @@
 // Runs every operation on requests from standard input and prints a line for each:
 // NAME A B ROOM FIRST SECOND: answers VALUE ..; SLICE
-// NAME A B ROOM FIRST SECOND: refused NUMBER side SIDE position POSITION; SLICE
+// NAME A B ROOM FIRST SECOND: refused NUMBER side SIDE position POSITION reason REASON; SLICE
 mod lent;
 mod operation;
 mod print;

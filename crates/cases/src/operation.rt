@@ -60,7 +60,7 @@ fn lend_nothing(op: u8, a: u8, b: u16, first: &[u8]) {
     }
 }
 
-// 1, control, target and position of a CNOT; 2, wire, angle and position of a phase; 0 for bad.
+// 1, control, target and position of a CNOT; 2, wire, angle and position of a phase; 0 and the reason for bad.
 fn gate(answer: Decoded) {
     match answer {
         Decoded::Good(placed) => {
@@ -79,7 +79,10 @@ fn gate(answer: Decoded) {
             }
             number(placed.position)
         }
-        Decoded::Bad => answers(0),
+        Decoded::Bad(reason) => {
+            answers(0);
+            number(circuit::reason_number(reason) as usize)
+        }
     }
 }
 

@@ -66,6 +66,8 @@ pub(crate) fn refused(r: Refusal) {
     number(r.side as usize);
     io::write_all(STDOUT_FILENO, b" position");
     number(r.position);
+    io::write_all(STDOUT_FILENO, b" reason");
+    number(r.reason as usize);
 }
 
 // How many cases each operation had, and all together.

@@ -32,12 +32,19 @@ pub(crate) fn refused(r: Refusal) {
     say(words::word(names, row));
     number(b" side ", r.side as usize);
     number(b" position ", r.position);
-    reason(row);
+    reason(r.reason);
+    row_words(row);
+}
+
+// What is wrong with a bad gate; nothing for the other refusals.
+fn reason(reason: u8) {
+    let reasons = b"\0 reason kind\0 reason wire\0 reason equal\0 reason spare";
+    say(words::word(reasons, reason as usize));
 }
 
 // The words of a row of document 01's table.
-fn reason(row: usize) {
-    let reasons = b"\0\
+fn row_words(row: usize) {
+    let rows = b"\0\
         : n is 0 or above 8\n\0\
         : the table's length is wrong\n\0\
         : an unused table bit is 1\n\0\
@@ -51,7 +58,7 @@ fn reason(row: usize) {
         : the start is not below 2^w\n\0\
         : the wire counts differ\n\0\
         : the room is too small\n";
-    say(words::word(reasons, row));
+    say(words::word(rows, row));
 }
 
 pub(crate) fn wrote(length: usize) {
