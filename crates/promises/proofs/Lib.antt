@@ -4,6 +4,8 @@ pub mod Demand1
 pub mod Demand2
 pub mod Demand3
 pub mod OneAnswer
+pub mod Faults
+pub mod Reasons
 pub mod Cases
 pub mod Wrong
 pub mod FirstStates

@@ -1,5 +1,6 @@
 -- 01, "These programs are to be shown unacceptable", as theorems over the contracts, each with the input that shows it.
 use Prim.Native.Nat.{ℕ, zero, suc}
+use native.Mathlib.Decide.{ℕ-discrete}
 use native.Mathlib.Omega.{arith}
 use mathlib.Core.Path.{_≡_, refl, sym, ap, _∙_}
 use mathlib.Core.Bool.{false}
@@ -8,6 +9,7 @@ use lib.ListN.{length, getD, replicate, length-replicate}
 use lib.Count.{ones}
 use lib.IntN.{pos}
 use Rattle.numbers.specs.Bits.{subset}
+use Rattle.refusal.specs.Names.{badGate}
 use Rattle.refusal.specs.Checks.{Check, passed, outcome}
 use Rattle.refusal.specs.Contract.{Said, Says}
 use Rattle.refusal.proofs.Rooms.{room-suffices}
@@ -15,8 +17,9 @@ use Rattle.refusal.proofs.Contracts.{says-refused}
 use Rattle.table.specs.Table.{tableChecks, checkedSays}
 use Rattle.spectrum.specs.Spectrum.{spectrumChecks, transformedSays}
 use Rattle.circuit.specs.declared.Gate.the-variants.{Cnot, Phase}
+use Rattle.circuit.specs.declared.Reading.the-variants.{Refused as ReadRefused}
 use Rattle.circuit.specs.Gates.{decoded, firstBad, gatesFrom, bytesOf}
-use Rattle.circuit.specs.File.{fileOf, fileChecks, readingSays}
+use Rattle.circuit.specs.File.{headerBytes, fileOf, fileChecks, readingSays, Reads}
 use Rattle.running.specs.declared.Counted.the-variants.{Gates}
 use Rattle.running.specs.Run.{endFrom, totalFrom, cnots, phases, score, runChecks, ranSays, countedSays, Counts}
 use Rattle.running.specs.Masks.{masksFrom, sumMet}
@@ -37,8 +40,8 @@ use Rattle.oracle_listing.specs.Oracle.{oracleChecks}
 use Rattle.oracle_listing.proofs.Callers.{room-for-text}
 use Rattle.promises.specs.Demands.{Refuses}
 use Rattle.promises.specs.Cases.{builtHere, empty, cases}
-use Rattle.promises.specs.Wrong.{Unacceptable, checking, transforming, reading, running, counting, building, folding, comparing, judging, listing, listingOracle, RefusesEverything, AlwaysFinds, LeavesBuffer, Copies, firstMask, firstGroup, FoldsFirstGroup, AlwaysScores, AlwaysScoresBefore, AlwaysScoresAfter}
-use Rattle.promises.proofs.OneAnswer.{one-count, one-build, one-fold, one-comparison, one-judgement}
+use Rattle.promises.specs.Wrong.{Unacceptable, checking, transforming, reading, running, counting, building, folding, comparing, judging, listing, listingOracle, RefusesEverything, AlwaysFinds, LeavesBuffer, Copies, firstMask, firstGroup, FoldsFirstGroup, AlwaysScores, AlwaysScoresBefore, AlwaysScoresAfter, AlwaysReasons, lastReason, ReasonsByLast}
+use Rattle.promises.proofs.OneAnswer.{one-reading, one-count, one-build, one-fold, one-comparison, one-judgement}
 use Rattle.promises.proofs.Cases.{cases-hold}
 
 -- no program that goes wrong at every input in such a way meets its contract at every input
@@ -237,3 +240,41 @@ invented-score-after =
     invented folding AlwaysScoresAfter (one-phase, replicate 12 0) (empty, replicate 8 0)
     (λ s a x m e. let q : File (e .0) (e .1) s ≡ File 12 1 1 = sym (e .2) ∙ one-fold one-phase (replicate 12 0) a _ x _ m one-folded .0 in cc)
     (λ s a x m e. let q : File (e .0) (e .1) s ≡ File 8 0 0 = sym (e .2) ∙ one-fold empty (replicate 8 0) a _ x _ m none-folded .0 in cc)
+
+-- ---- an invented reason
+
+-- two bad gates: the first of no kind, the second from wire 0 to itself
+two-bad : List ℕ
+two-bad = headerBytes 2 2 ++ (0 ∷ 0 ∷ 0 ∷ 0 ∷ 1 ∷ 0 ∷ 0 ∷ 0 ∷ [])
+
+two-bad-read : Reads two-bad (ReadRefused (badGate 0 0 1))
+unfolding two-bad outcome decoded firstBad
+two-bad-read = refl
+
+-- the second of them alone
+one-bad : List ℕ
+one-bad = headerBytes 2 1 ++ (1 ∷ 0 ∷ 0 ∷ 0 ∷ [])
+
+one-bad-read : Reads one-bad (ReadRefused (badGate 0 0 3))
+unfolding one-bad outcome decoded firstBad
+one-bad-read = refl
+
+pub invented-reason : (x : ℕ) → Unacceptable reading (AlwaysReasons x)
+invented-reason x = by (ℕ-discrete x 1)
+  where
+    by : Dec (x ≡ 1) → Unacceptable reading (AlwaysReasons x)
+    by (yes e) = record {
+      input = one-bad;
+      fails = λ a l wrong m. let z : 3 ≡ x = wrong (badGate 0 0 3) (one-reading one-bad a _ m one-bad-read) refl in omega arith;
+    }
+    by (no n) = record {
+      input = two-bad;
+      fails = λ a l wrong m. n (sym (wrong (badGate 0 0 1) (one-reading two-bad a _ m two-bad-read) refl));
+    }
+
+pub last-reason : Unacceptable reading ReasonsByLast
+unfolding two-bad decoded lastReason
+last-reason = record {
+  input = two-bad;
+  fails = λ a l wrong m. let z : _≡_ {A = ℕ} 1 3 = wrong (badGate 0 0 1) (one-reading two-bad a _ m two-bad-read) refl in omega arith;
+}

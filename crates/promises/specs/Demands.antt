@@ -22,7 +22,7 @@ Refuses said answer = (r : Refusal) × (said answer ≡ saidOf r)
 pub record FirstDemand {Answer Entry : Type 0} (said : Answer → Said) (checks : List Check) (before : List Entry) (answer : Answer) (after : List Entry) : Type 0 where
   -- "finishes with an answer or a numbered refusal"
   pub finishes : Answers said answer ⊎ Refuses said answer
-  -- "A refusal is given when document 01 says": that of the first row whose test holds, with its number, side and position
+  -- "A refusal is given when document 01 says": that of the first row whose test holds, with its number, side, position and reason
   pub given : (r : Refusal) → outcome checks ≡ refused r → said answer ≡ saidOf r
   -- "and at no other time"
   pub only : (r : Refusal) → said answer ≡ saidOf r → outcome checks ≡ refused r

@@ -1,3 +1,4 @@
 pub mod Demands
+pub mod Reasons
 pub mod Cases
 pub mod Wrong

@@ -1,5 +1,5 @@
 -- 01, "How far every promise reaches": "These programs are to be shown unacceptable". What each does wrong, and what showing it means.
-use Prim.Native.Nat.{ℕ, suc}
+use Prim.Native.Nat.{ℕ, zero, suc}
 use mathlib.Core.Path.{_≡_}
 use mathlib.Core.Bool.{Bool, cond}
 use mathlib.Core.List.{List, [], _∷_, _++_}
@@ -7,15 +7,19 @@ use lib.Dec.{ltb, eqb}
 use lib.ListN.{length, getD, drop}
 use lib.IntN.{ℤ}
 use Rattle.numbers.specs.Search.{least}
+use Rattle.refusal.specs.declared.Refusal.{Refusal}
+use Rattle.refusal.specs.Names.{GATE}
 use Rattle.refusal.specs.Contract.{Said}
 use Rattle.table.specs.declared.Checked.{Checked}
 use Rattle.table.specs.Table.{valueAt, Checks}
 use Rattle.spectrum.specs.declared.Transformed.{Transformed}
 use Rattle.spectrum.specs.Spectrum.{Transforms}
 use Rattle.circuit.specs.declared.Reading.{Reading}
+use Rattle.circuit.specs.declared.Reading.the-variants.{Refused as ReadRefused}
 use Rattle.circuit.specs.declared.Gate.{Gate}
 use Rattle.circuit.specs.declared.Gate.the-variants.{Cnot, Phase}
-use Rattle.circuit.specs.File.{wiresOf, gatesOf, fileOf, Reads}
+use Rattle.circuit.specs.Gates.{decodedAt, reasonOf}
+use Rattle.circuit.specs.File.{wiresOf, countOf, gatesOf, fileOf, Reads}
 use Rattle.running.specs.declared.Ran.{Ran}
 use Rattle.running.specs.declared.Counted.{Counted}
 use Rattle.running.specs.declared.Counted.the-variants.{Gates}
@@ -138,3 +142,21 @@ AlwaysScoresBefore s input answer after = (l : ℕ) × (b : ℕ) × (answer ≡ 
 
 abbrev pub AlwaysScoresAfter : ℕ → List ℕ × List ℕ → Folded → List ℕ → Type 0
 AlwaysScoresAfter s input answer after = (l : ℕ) × (b : ℕ) × (answer ≡ File l b s)
+
+-- 02 §4, "Refusal 10 hands the reason on": one that is the same for every bad gate is not handed on, 0 among them
+abbrev pub AlwaysReasons : ℕ → List ℕ → Reading → List ℕ → Type 0
+AlwaysReasons x input answer after = (r : Refusal) → answer ≡ ReadRefused r → r .number ≡ GATE → r .reason ≡ x
+
+-- a number, or another where it is 0
+abbrev pub orElse : ℕ → ℕ → ℕ
+orElse zero other = other
+orElse (suc x) other = suc x
+
+-- the reason of the last bad gate; 0 where none is bad
+unfoldable pub lastReason : ℕ → ℕ → ℕ → List ℕ → ℕ
+lastReason w zero p bs = 0
+lastReason w (suc n) p bs = orElse (lastReason w n (suc p) (drop 4 bs)) (reasonOf (decodedAt w p bs))
+
+-- nor is that of the last bad gate
+abbrev pub ReasonsByLast : List ℕ → Reading → List ℕ → Type 0
+ReasonsByLast input answer after = (r : Refusal) → answer ≡ ReadRefused r → r .number ≡ GATE → r .reason ≡ lastReason (wiresOf input) (countOf input) 0 (drop 8 input)
