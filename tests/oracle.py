@@ -1,4 +1,4 @@
-"""The test oracle: document 01 followed by brute force.
+"""The test oracle: document 01, with the requests of 02 that have landed, followed by brute force.
 
 A function that writes takes the room, the number of entries of the lent
 slice (None: enough), and returns the entries written at its front.
@@ -10,6 +10,7 @@ from math import gcd
 Cnot = namedtuple("Cnot", "control target")
 Phase = namedtuple("Phase", "wire angle")
 Held = namedtuple("Held", "position gate")
+Bad = namedtuple("Bad", "reason")
 Different = namedtuple("Different", "state first_end second_end phase")
 SAME = "same"
 
@@ -21,9 +22,9 @@ COUNT, LENGTH, GATE, STATE, UNLIKE, ROOM = 8, 9, 10, 11, 12, 13
 
 
 class Refused(Exception):
-    def __init__(self, number, side=0, position=0):
-        super().__init__(number, side, position)
-        self.number, self.side, self.position = number, side, position
+    def __init__(self, number, side=0, position=0, reason=0):
+        super().__init__(number, side, position, reason)
+        self.number, self.side, self.position, self.reason = number, side, position, reason
 
 
 def check_table(n, table):
@@ -124,19 +125,35 @@ def encode(w, gates):
     return file
 
 
+KIND, WIRE, EQUAL, SPARE = 1, 2, 3, 4
+
+
+def faults(w, four):
+    """02 §4: all that is wrong with a gate, in the order in which the reasons are tried."""
+    kind, second, third, fourth = four
+    wires = {1: (second, third), 2: (second,)}
+    if kind not in wires:
+        yield KIND
+        return
+    if any(wire >= w for wire in wires[kind]):
+        yield WIRE
+    if kind == 1 and second == third:
+        yield EQUAL
+    if kind == 1 and fourth != 0:
+        yield SPARE
+
+
 def decode(w, position, four):
     kind, second, third, fourth = four
-    if kind == 1 and second < w and third < w and second != third and fourth == 0:
-        return Held(position, Cnot(second, third))
-    if kind == 2 and second < w:
-        return Held(position, Phase(second, third * 256 + fourth))
-    return None
+    for reason in faults(w, four):
+        return Bad(reason)
+    return Held(position, Cnot(second, third) if kind == 1 else Phase(second, third * 256 + fourth))
 
 
 def gate_at(file, position):
-    """The gate at a position of a file; bad where its bytes do not all lie in the file."""
+    """The gate at a position of a file; without a kind where its bytes do not all lie in the file."""
     four = file[8 + 4 * position:12 + 4 * position]
-    return decode(file[5], position, four) if len(four) == 4 else None
+    return decode(file[5], position, four) if len(four) == 4 else Bad(KIND)
 
 
 def parse(file, side=0):
@@ -158,10 +175,10 @@ def parse(file, side=0):
     gates = []
     for position in range(number):
         start = 8 + 4 * position
-        held = decode(w, position, file[start:start + 4])
-        if held is None:
-            raise Refused(GATE, side, position)
-        gates.append(held.gate)
+        decoded = decode(w, position, file[start:start + 4])
+        if isinstance(decoded, Bad):
+            raise Refused(GATE, side, position, decoded.reason)
+        gates.append(decoded.gate)
     return w, gates
 
 
@@ -357,7 +374,7 @@ def refusal(function, *inputs):
     try:
         function(*inputs)
     except Refused as refused:
-        return refused.number, refused.side, refused.position
+        return refused.number, refused.side, refused.position, refused.reason
     return None
 
 
@@ -406,12 +423,12 @@ def check():
     holds(compare(three_parities(16384), empty)[0], Different(1, 1, 1, 32768))
 
     holds(refusal(build, 8, bytes(32)), None)
-    holds(refusal(build, 9, bytes(64)), (VARS, 0, 0))
-    holds(refusal(build, 1, byte("04")), (PAD, 0, 0))
+    holds(refusal(build, 9, bytes(64)), (VARS, 0, 0, 0))
+    holds(refusal(build, 1, byte("04")), (PAD, 0, 0, 0))
     holds(refusal(read, encode(1, [Phase(0, 1)] * 2048)), None)
-    holds(refusal(read, encode(1, [Phase(0, 1)] * 2049)), (COUNT, 0, 0))
-    holds(refusal(read, empty[:7]), (SHORT, 0, 0))
-    holds(refusal(build, 1, byte("02"), 31), (ROOM, 0, 0))
+    holds(refusal(read, encode(1, [Phase(0, 1)] * 2049)), (COUNT, 0, 0, 0))
+    holds(refusal(read, empty[:7]), (SHORT, 0, 0, 0))
+    holds(refusal(build, 1, byte("02"), 31), (ROOM, 0, 0, 0))
     holds(refusal(build, 1, byte("02"), 32), None)
 
     holds(printout(byte("01 02")), EXAMPLE_LISTING)

@@ -48,6 +48,8 @@ REFUSALS = {
     12: ("UNLIKE", "the wire counts differ"),
 }
 
+REASONS = {1: "kind", 2: "wire", 3: "equal", 4: "spare"}
+
 
 class Complaint(Exception):
     pass
@@ -156,7 +158,8 @@ def done(line, files, closed=()):
         return command(line[0] if line else "", line[1:], files, closed)
     except Refused as r:
         name, why = REFUSALS[r.number]
-        return said(f"refused {r.number} {name} side {r.side} position {r.position}: {why}\n")
+        reason = f" reason {REASONS[r.reason]}" if r.number == oracle.GATE else ""
+        return said(f"refused {r.number} {name} side {r.side} position {r.position}{reason}: {why}\n")
     except Complaint as complaint:
         return Done("", f"phg: {complaint}\n", None)
 
@@ -394,6 +397,7 @@ def samples():
     gates = [Phase(1, 5), Cnot(0, 1), Phase(1, 7), Cnot(0, 1), Phase(1, 9)]
     good = oracle.encode(2, gates)
     bad_gate = oracle.encode(2, gates[:3] + [Cnot(1, 1)])
+    header, no_kind, spare = bad_gate[:7], b"\3\2\2\5", b"\1\0\1\5"
     return {
         "two_wires": oracle.encode(2, []),
         "mixing": oracle.encode(2, [Cnot(0, 1)]),
@@ -406,6 +410,9 @@ def samples():
         "count": good[:6] + b"\10\1" + good[8:],
         "length": good + b"\0",
         "gate": bad_gate,
+        "kind": header + b"\1" + no_kind,
+        "wire": header + b"\2" + b"\1\2\2\5" + no_kind,
+        "spare": header + b"\1" + spare,
         "majority": bytes.fromhex("e8"),
     }
 
@@ -442,7 +449,15 @@ read wires
 count count
 list length never
 read gate
+read kind
+read wire
+count spare
+run gate 0
+fold kind never
+list wire never
+compare gate spare
 compare built gate
+judge 1 02 spare
 run built 8
 run built 70000
 compare mixing three_wires

@@ -121,12 +121,11 @@ def request_words(request):
     return f"{request.op:8} {request.a} {request.b} {request.room} {first} {second}"
 
 
-def gate_values(held):
-    if held is None:
-        return [0]
-    if isinstance(held.gate, Cnot):
-        return [1, held.gate.control, held.gate.target, held.position]
-    return [2, held.gate.wire, held.gate.angle, held.position]
+def gate_values(decoded):
+    if isinstance(decoded, oracle.Bad):
+        return [0, decoded.reason]
+    gate, position = decoded.gate, decoded.position
+    return [1, *gate, position] if isinstance(gate, Cnot) else [2, *gate, position]
 
 
 def verdict_values(verdict):
@@ -185,7 +184,7 @@ def expected_line(request):
         values, written = answer(request)
         words = " ".join(["answers", *map(str, values)])
     except oracle.Refused as refused:
-        words = f"refused {refused.number} side {refused.side} position {refused.position}"
+        words = f"refused {refused.number} side {refused.side} position {refused.position} reason {refused.reason}"
         written = []
     line = f"{request_words(request)}: {words}"
     if request.op in WIDTH_LENT:
@@ -508,6 +507,76 @@ def circuit_section(rng):
     yield count("2,048 gates", full)
     yield count("built, n 1, byte 02", oracle.build(1, b"\2"))
     yield count("built, n 8", oracle.build(8, random_table(rng, 8)))
+
+
+# Section reasons
+
+# Bad at two wires, with the reason that 02 §4 says, written down by hand
+KIND, WIRE, EQUAL, SPARE = "kind", "wire", "equal", "spare"
+REASONS = {KIND: 1, WIRE: 2, EQUAL: 3, SPARE: 4}
+
+ONE_FAULT = [
+    (KIND, "kind 0", "00000100"), (KIND, "kind 3", "03000100"), (KIND, "kind 255", "ff010000"),
+    (KIND, "kind 0, an angle", "00014000"), (WIRE, "control w", "01020100"), (WIRE, "control 255", "01ff0000"),
+    (WIRE, "target w", "01000200"), (WIRE, "target 255", "0101ff00"), (WIRE, "both wires", "01020300"),
+    (WIRE, "phase on wire w", "02020000"), (WIRE, "phase on wire 255", "02ff4000"),
+    (EQUAL, "wire 0 twice", "01000000"), (EQUAL, "wire 1 twice", "01010100"),
+    (SPARE, "last byte 1", "01000101"), (SPARE, "last byte 128", "01010080"), (SPARE, "last byte 255", "010001ff"),
+]
+
+MORE_FAULTS = [
+    (KIND, "kind and control", "03020100"), (KIND, "kind and target", "03000200"), (KIND, "kind and equal", "00010100"),
+    (KIND, "kind and spare", "03000105"), (WIRE, "wire and equal", "01020200"), (WIRE, "control and spare", "01020105"),
+    (WIRE, "target and spare", "01000205"), (EQUAL, "equal and spare", "01010105"),
+    (KIND, "kind, wire, equal", "03020200"), (KIND, "kind, wire, spare", "00020105"),
+    (KIND, "kind, equal, spare", "ff000001"), (WIRE, "wire, equal, spare", "01020205"), (KIND, "all four", "03020205"),
+]
+
+# What is asked of a CNOT only: its second wire, equal wires, the last byte
+GOOD_PHASES = [
+    ("last byte 1", "02000001"), ("last byte 255", "020140ff"), ("third byte w", "02000200"),
+    ("third byte 255", "0201ff00"), ("third byte the wire", "02010100"), ("third byte the wire, last byte 5", "02010105"),
+]
+
+
+def reason_requests(note, file):
+    """A file with a bad gate in every operation, at each side."""
+    good = raw(2, [])
+    yield read(note, file)
+    yield read(f"{note}, side 1", file, 1)
+    yield run(note, file, 0)
+    yield count(note, file)
+    yield fold(note, file, 24)
+    yield compare(f"{note}, first", file, good, 4)
+    yield compare(f"{note}, second", good, file, 4)
+    yield judge(note, 1, b"\2", file, 4)
+    for wrapped in (False, True):
+        yield listing(note, file, wrapped, 60)
+
+
+def reasons_section(rng):
+    for reason, note, quad in ONE_FAULT + MORE_FAULTS:
+        four = bytes.fromhex(quad)
+        assert oracle.decode(2, 0, four) == oracle.Bad(REASONS[reason]), (note, quad)
+        yield decode(f"{reason}: {note}", 2, rng.choice([0, 1, 2047, 65535]), four)
+        yield from reason_requests(f"{reason}: {note}", raw(2, [quad]))
+        yield gate_at(f"{reason}: {note}", raw(2, ["02004000", quad]), 1)
+    for note, quad in GOOD_PHASES:
+        assert isinstance(oracle.decode(2, 0, bytes.fromhex(quad)), oracle.Held), (note, quad)
+        yield decode(f"a good phase: {note}", 2, 5, bytes.fromhex(quad))
+        yield read(f"a good phase: {note}", raw(2, [quad]))
+    one_each = [next(fault for fault in ONE_FAULT if fault[0] == reason) for reason in REASONS]
+    before = ["02004000", "01000100", "0201ffff"]
+    for reason, note, quad in one_each:
+        others = [other for name, _, other in one_each if name != reason]
+        for behind in [[other] for other in others] + [others, before + others]:
+            yield from reason_requests(f"{reason} before {len(behind)} others", raw(2, before + [quad] + behind))
+        yield read(f"{reason} in front of 2,047 others", raw(2, [quad] + others[:1] * 2047))
+        yield read(f"{reason} behind 2,047 good ones", raw(2, before[:1] * 2047 + [quad]))
+        for name, _, other in one_each:
+            yield compare(f"{reason} first, {name} second", raw(2, [quad]), raw(2, before + [other]), 4)
+    for length in range(8, 12):
+        yield gate_at(f"first {length} bytes: no kind", raw(2, ["01010100"])[:length], 0)
 
 
 # Section build
@@ -1046,7 +1115,7 @@ SECTIONS = {
     "paper": (100, paper_section), "spectrum": (101, spectrum_section), "circuit": (102, circuit_section),
     "build": (103, build_section), "fold": (104, fold_section), "verdict": (105, verdict_section),
     "listing": (106, listing_section), "table": (107, table_section), "oracle": (108, oracle_section),
-    "printout": (109, printout_section),
+    "printout": (109, printout_section), "reasons": (110, reasons_section),
 }
 
 
