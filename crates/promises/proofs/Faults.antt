@@ -1,7 +1,7 @@
 -- 02 §4: of several faults of a gate the first is its reason, and without one it is good; no two reasons have one number.
 use Prim.Native.Nat.{ℕ, _≤_}
 use native.Mathlib.Omega.{arith}
-use mathlib.Core.Path.{_≡_, refl, sym, ap, _∙_}
+use mathlib.Core.Path.{_≡_, refl, sym, ap, subst, _∙_}
 use mathlib.Core.Logic.{_⊎_, inl, inr, ⊎-elim}
 use mathlib.Core.Bool.{Bool, true, false, not, _||_, _&&_, cond}
 use lib.Dec.{leb, eqb}
@@ -9,22 +9,16 @@ use borrow.Author.Tests.{leb-true, leb-false, eqb-true, eqb-false, not-true, not
 use Rattle.circuit.specs.declared.Reason.{Reason}
 use Rattle.circuit.specs.declared.Reason.the-variants.{Kind, Wire, Equal, Spare}
 use Rattle.circuit.specs.declared.Decoded.{Decoded}
-use Rattle.circuit.specs.Gates.{badKind, badWire, equalWires, badSpare, reasonNumber, reasonOf}
+use Rattle.circuit.specs.declared.Decoded.the-variants.{Good, Bad}
+use Rattle.circuit.specs.Gates.{badKind, badWire, equalWires, badSpare, decoded, reasonNumber}
 use Rattle.circuit.proofs.Decoding.{bad-kind, bad-wire, equal-wires, bad-spare, no-fault}
-use Rattle.promises.specs.Reasons.{Not, Exactly, BadKind, BadWire, EqualWires, BadSpare, FirstFault}
-
--- the decoder answers this, and the fact holds; or it answers another, and the fact does not hold
-is : {A : Type 0} {d e : Decoded} → d ≡ e → A → Exactly (d ≡ e) A
-is q a = (λ r. a, λ r. q)
-
-isn't : {A : Type 0} {d e o : Decoded} → d ≡ e → Not (reasonOf e ≡ reasonOf o) → Not A → Exactly (d ≡ o) A
-isn't q n x = (λ r. absurd (n (ap reasonOf (sym q ∙ r))), λ a. absurd (x a))
+use Rattle.promises.specs.Reasons.{BadKind, BadWire, EqualWires, BadSpare, FirstFault}
 
 -- a test that says whether a fact holds
 abbrev Shows : Bool → Type 0 → Type 0
-Shows t A = (t ≡ true → A) × (t ≡ false → Not A)
+Shows t A = (t ≡ true → A) × (t ≡ false → ¬ A)
 
-shows-not : {A : Type 0} (t : Bool) → Shows t A → Shows (not t) (Not A)
+shows-not : {A : Type 0} (t : Bool) → Shows t A → Shows (not t) (¬ A)
 shows-not t h = (λ e. h .1 (not-true t e), λ e n. n (h .0 (not-false t e)))
 
 shows-and : {A B : Type 0} (s t : Bool) → Shows s A → Shows t B → Shows (s && t) (A × B)
@@ -41,6 +35,14 @@ shows-same m n = (eqb-true m n, eqb-false m n)
 shows-most : (m n : ℕ) → Shows (leb m n) (m ≤ n)
 shows-most m n = (leb-true m n, λ e h. omega (arith, leb-false m n e))
 
+shown : {A : Type 0} (t : Bool) → Shows t A → A → t ≡ true
+shown true h x = refl
+shown false h x = absurd (h .1 refl x)
+
+denied : {A : Type 0} (t : Bool) → Shows t A → ¬ A → t ≡ false
+denied true h n = absurd (n (h .0 refl))
+denied false h n = refl
+
 module _ (w p kind a b c : ℕ) where
   shows-kind : Shows (badKind kind) (BadKind kind)
   shows-kind = shows-and (not (eqb kind 1)) (not (eqb kind 2)) (shows-not (eqb kind 1) (shows-same kind 1)) (shows-not (eqb kind 2) (shows-same kind 2))
@@ -54,70 +56,42 @@ module _ (w p kind a b c : ℕ) where
   shows-spare : Shows (badSpare kind c) (BadSpare kind c)
   shows-spare = shows-and (eqb kind 1) (not (eqb c 0)) (shows-same kind 1) (shows-not (eqb c 0) (shows-same c 0))
 
+  -- what each answer means for the bytes
+  abbrev Means : Decoded → Type 0
+  Means (Bad Kind) = BadKind kind
+  Means (Bad Wire) = ¬ (BadKind kind) × BadWire w kind a b
+  Means (Bad Equal) = ¬ (BadKind kind) × ¬ (BadWire w kind a b) × EqualWires kind a b
+  Means (Bad Spare) = ¬ (BadKind kind) × ¬ (BadWire w kind a b) × ¬ (EqualWires kind a b) × BadSpare kind c
+  Means (Good g) = ¬ (BadKind kind) × ¬ (BadWire w kind a b) × ¬ (EqualWires kind a b) × ¬ (BadSpare kind c)
+
+  meant : Means (decoded w p kind a b c)
+  meant = by (badKind kind) (badWire w kind a b) (equalWires kind a b) (badSpare kind c) refl refl refl refl
+    where
+      by : (k v e s : Bool) → badKind kind ≡ k → badWire w kind a b ≡ v → equalWires kind a b ≡ e → badSpare kind c ≡ s → Means (decoded w p kind a b c)
+      by true v e s k₁ v₁ e₁ s₁ = subst Means (sym (bad-kind w p kind a b c k₁)) (shows-kind .0 k₁)
+      by false true e s k₁ v₁ e₁ s₁ = subst Means (sym (bad-wire w p kind a b c k₁ v₁)) (shows-kind .1 k₁, shows-wire .0 v₁)
+      by false false true s k₁ v₁ e₁ s₁ = subst Means (sym (equal-wires w p kind a b c k₁ v₁ e₁)) (shows-kind .1 k₁, shows-wire .1 v₁, shows-equal .0 e₁)
+      by false false false true k₁ v₁ e₁ s₁ = subst Means (sym (bad-spare w p kind a b c k₁ v₁ e₁ s₁)) (shows-kind .1 k₁, shows-wire .1 v₁, shows-equal .1 e₁, shows-spare .0 s₁)
+      by false false false false k₁ v₁ e₁ s₁ = subst Means (sym (no-fault w p kind a b c k₁ v₁ e₁ s₁)) (shows-kind .1 k₁, shows-wire .1 v₁, shows-equal .1 e₁, shows-spare .1 s₁)
+
+  kind-fails : ¬ (BadKind kind) → badKind kind ≡ false
+  kind-fails = denied (badKind kind) shows-kind
+
+  wire-fails : ¬ (BadWire w kind a b) → badWire w kind a b ≡ false
+  wire-fails = denied (badWire w kind a b) shows-wire
+
+  equal-fails : ¬ (EqualWires kind a b) → equalWires kind a b ≡ false
+  equal-fails = denied (equalWires kind a b) shows-equal
+
   -- "tried in that order"
   pub first-fault : FirstFault w p kind a b c
-  first-fault = by (badKind kind) (badWire w kind a b) (equalWires kind a b) (badSpare kind c) refl refl refl refl
-    where
-      by : (k v e s : Bool) → badKind kind ≡ k → badWire w kind a b ≡ v → equalWires kind a b ≡ e → badSpare kind c ≡ s → FirstFault w p kind a b c
-      by true v e s p₁ p₂ p₃ p₄ =
-          let x = shows-kind .0 p₁ in
-          let q = bad-kind w p kind a b c p₁ in
-          record {
-            kindFirst = is q x;
-            thenWire = isn't q (λ z. omega arith) (λ h. h .0 x);
-            thenEqual = isn't q (λ z. omega arith) (λ h. h .0 x);
-            thenSpare = isn't q (λ z. omega arith) (λ h. h .0 x);
-            elseGood = isn't q (λ z. omega arith) (λ h. h .0 x);
-          }
-      by false true e s p₁ p₂ p₃ p₄ =
-          let k = shows-kind .1 p₁ in
-          let x = shows-wire .0 p₂ in
-          let q = bad-wire w p kind a b c p₁ p₂ in
-          record {
-            kindFirst = isn't q (λ z. omega arith) k;
-            thenWire = is q (k, x);
-            thenEqual = isn't q (λ z. omega arith) (λ h. h .1 x);
-            thenSpare = isn't q (λ z. omega arith) (λ h. h .1 x);
-            elseGood = isn't q (λ z. omega arith) (λ h. h .1 x);
-          }
-      by false false true s p₁ p₂ p₃ p₄ =
-          let k = shows-kind .1 p₁ in
-          let v = shows-wire .1 p₂ in
-          let x = shows-equal .0 p₃ in
-          let q = equal-wires w p kind a b c p₁ p₂ p₃ in
-          record {
-            kindFirst = isn't q (λ z. omega arith) k;
-            thenWire = isn't q (λ z. omega arith) (λ h. v (h .1));
-            thenEqual = is q (k, v, x);
-            thenSpare = isn't q (λ z. omega arith) (λ h. h .2 x);
-            elseGood = isn't q (λ z. omega arith) (λ h. h .2 x);
-          }
-      by false false false true p₁ p₂ p₃ p₄ =
-          let k = shows-kind .1 p₁ in
-          let v = shows-wire .1 p₂ in
-          let e = shows-equal .1 p₃ in
-          let x = shows-spare .0 p₄ in
-          let q = bad-spare w p kind a b c p₁ p₂ p₃ p₄ in
-          record {
-            kindFirst = isn't q (λ z. omega arith) k;
-            thenWire = isn't q (λ z. omega arith) (λ h. v (h .1));
-            thenEqual = isn't q (λ z. omega arith) (λ h. e (h .2));
-            thenSpare = is q (k, v, e, x);
-            elseGood = isn't q (λ z. omega arith) (λ h. h .3 x);
-          }
-      by false false false false p₁ p₂ p₃ p₄ =
-          let k = shows-kind .1 p₁ in
-          let v = shows-wire .1 p₂ in
-          let e = shows-equal .1 p₃ in
-          let s = shows-spare .1 p₄ in
-          let q = no-fault w p kind a b c p₁ p₂ p₃ p₄ in
-          record {
-            kindFirst = isn't q (λ z. omega arith) k;
-            thenWire = isn't q (λ z. omega arith) (λ h. v (h .1));
-            thenEqual = isn't q (λ z. omega arith) (λ h. e (h .2));
-            thenSpare = isn't q (λ z. omega arith) (λ h. s (h .3));
-            elseGood = is q (k, v, e, s);
-          }
+  first-fault = record {
+    kindFirst = (λ e. subst Means e meant, λ x. bad-kind w p kind a b c (shown (badKind kind) shows-kind x));
+    thenWire = (λ e. subst Means e meant, λ h. bad-wire w p kind a b c (kind-fails (h .0)) (shown (badWire w kind a b) shows-wire (h .1)));
+    thenEqual = (λ e. subst Means e meant, λ h. equal-wires w p kind a b c (kind-fails (h .0)) (wire-fails (h .1)) (shown (equalWires kind a b) shows-equal (h .2)));
+    thenSpare = (λ e. subst Means e meant, λ h. bad-spare w p kind a b c (kind-fails (h .0)) (wire-fails (h .1)) (equal-fails (h .2)) (shown (badSpare kind c) shows-spare (h .3)));
+    elseGood = (λ e. subst Means e meant, λ h. no-fault w p kind a b c (kind-fails (h .0)) (wire-fails (h .1)) (equal-fails (h .2)) (denied (badSpare kind c) shows-spare (h .3)));
+  }
 
 -- no two reasons have one number
 reasonNumbered : ℕ → Reason

@@ -36,7 +36,7 @@ use Rattle.listing.specs.declared.Listed.{Listed}
 use Rattle.listing.specs.Listing.{listingOfFile, listChecks, listedSays, Lists, Writes}
 use Rattle.oracle_listing.specs.Oracle.{oracleText, ListsOracle, printout, Prints}
 use Rattle.promises.specs.Demands.{FirstDemand}
-use Rattle.promises.specs.Reasons.{Not, FirstBadGate, HandsOn, NoReason}
+use Rattle.promises.specs.Reasons.{FirstBadGate, HandsOn, NoReason}
 use Rattle.promises.proofs.Demand1.{check-first, spectrum-first, side-read-first, run-first, count-first, build-first, fold-first, compare-first, judge-first, list-first, oracle-first, writing-first}
 
 -- ---- once over the contract's shape
@@ -54,7 +54,7 @@ pub answered-refusal : {Answer Entry : Type 0} (said : Answer → Said) (checks 
 answered-refusal said checks before answer after P all d r e = all r (d .only r e)
 
 -- an answer with another reason is another answer
-pub another-reason : {Answer : Type 0} (said : Answer → Said) (a b : Answer) (r s : Refusal) → said a ≡ saidOf r → said b ≡ saidOf s → Not (r .reason ≡ s .reason) → Not (a ≡ b)
+pub another-reason : {Answer : Type 0} (said : Answer → Said) (a b : Answer) (r s : Refusal) → said a ≡ saidOf r → said b ≡ saidOf s → ¬ (r .reason ≡ s .reason) → ¬ (a ≡ b)
 another-reason said a b r s p q n e = n (ap (λ (x : Refusal). x .reason) (same-refusal r s (sym p ∙ ap said e ∙ q)))
 
 -- and of two that meet a contract both have the same

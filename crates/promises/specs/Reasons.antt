@@ -1,7 +1,7 @@
 -- 02 §4, "The gate decoder answers its reason: kind, wire, equal wires, spare byte, tried in that order, and the spare byte only for a CNOT. Refusal 10 hands the reason on everywhere.": as statements.
 use Prim.Native.Nat.{ℕ, _≤_, _<_}
 use mathlib.Core.Path.{_≡_}
-use mathlib.Core.Logic.{_⊎_}
+use mathlib.Core.Logic.{_⊎_, _↔_}
 use mathlib.Core.List.{List}
 use Rattle.refusal.specs.declared.Refusal.{Refusal}
 use Rattle.refusal.specs.Names.{GATE}
@@ -12,17 +12,9 @@ use Rattle.circuit.specs.declared.Decoded.the-variants.{Good, Bad}
 use Rattle.circuit.specs.Gates.{decoded, good, gateSaid, reasonNumber}
 use Rattle.circuit.specs.File.{countOf, gateAt}
 
--- a fact does not hold
-abbrev pub Not : Type 0 → Type 0
-Not A = A → ⊥
-
--- the one fact holds exactly where the other does
-abbrev pub Exactly : Type 0 → Type 0 → Type 0
-Exactly A B = (A → B) × (B → A)
-
 -- 01, "A gate is bad if its kind is neither 1 nor 2, a wire isn't below w, control equals target, or a CNOT's last byte isn't 0.": the four faults, as facts
 abbrev pub BadKind : ℕ → Type 0
-BadKind kind = Not (kind ≡ 1) × Not (kind ≡ 2)
+BadKind kind = ¬ (kind ≡ 1) × ¬ (kind ≡ 2)
 
 abbrev pub BadWire : ℕ → ℕ → ℕ → ℕ → Type 0
 BadWire w kind a b = (w ≤ a) ⊎ ((kind ≡ 1) × (w ≤ b))
@@ -31,15 +23,15 @@ abbrev pub EqualWires : ℕ → ℕ → ℕ → Type 0
 EqualWires kind a b = (kind ≡ 1) × (a ≡ b)
 
 abbrev pub BadSpare : ℕ → ℕ → Type 0
-BadSpare kind c = (kind ≡ 1) × Not (c ≡ 0)
+BadSpare kind c = (kind ≡ 1) × ¬ (c ≡ 0)
 
 -- "tried in that order": of several faults the first is the reason; without one the gate is good
 pub record FirstFault (w p kind a b c : ℕ) : Type 0 where
-  pub kindFirst : Exactly (decoded w p kind a b c ≡ Bad Kind) (BadKind kind)
-  pub thenWire : Exactly (decoded w p kind a b c ≡ Bad Wire) (Not (BadKind kind) × BadWire w kind a b)
-  pub thenEqual : Exactly (decoded w p kind a b c ≡ Bad Equal) (Not (BadKind kind) × Not (BadWire w kind a b) × EqualWires kind a b)
-  pub thenSpare : Exactly (decoded w p kind a b c ≡ Bad Spare) (Not (BadKind kind) × Not (BadWire w kind a b) × Not (EqualWires kind a b) × BadSpare kind c)
-  pub elseGood : Exactly (decoded w p kind a b c ≡ good p (gateSaid kind a b c)) (Not (BadKind kind) × Not (BadWire w kind a b) × Not (EqualWires kind a b) × Not (BadSpare kind c))
+  pub kindFirst : (decoded w p kind a b c ≡ Bad Kind) ↔ BadKind kind
+  pub thenWire : (decoded w p kind a b c ≡ Bad Wire) ↔ (¬ (BadKind kind) × BadWire w kind a b)
+  pub thenEqual : (decoded w p kind a b c ≡ Bad Equal) ↔ (¬ (BadKind kind) × ¬ (BadWire w kind a b) × EqualWires kind a b)
+  pub thenSpare : (decoded w p kind a b c ≡ Bad Spare) ↔ (¬ (BadKind kind) × ¬ (BadWire w kind a b) × ¬ (EqualWires kind a b) × BadSpare kind c)
+  pub elseGood : (decoded w p kind a b c ≡ good p (gateSaid kind a b c)) ↔ (¬ (BadKind kind) × ¬ (BadWire w kind a b) × ¬ (EqualWires kind a b) × ¬ (BadSpare kind c))
 
 -- the gate at position p is the file's first bad one, and x the number of its reason
 pub record FirstBadGate (f : List ℕ) (p x : ℕ) : Type 0 where
@@ -52,9 +44,9 @@ pub record FirstBadGate (f : List ℕ) (p x : ℕ) : Type 0 where
 -- "Refusal 10 hands the reason on", and no other number has one; `file` is what the call is given as each side
 pub record HandsOn (file : ℕ → List ℕ) (r : Refusal) : Type 0 where
   pub gate : r .number ≡ GATE → FirstBadGate (file (r .side)) (r .position) (r .reason)
-  pub none : Not (r .number ≡ GATE) → r .reason ≡ 0
+  pub none : ¬ (r .number ≡ GATE) → r .reason ≡ 0
 
 -- of a call that is given no file
 pub record NoReason (r : Refusal) : Type 0 where
-  pub other : Not (r .number ≡ GATE)
+  pub other : ¬ (r .number ≡ GATE)
   pub none : r .reason ≡ 0
