@@ -16,7 +16,7 @@ use Rattle.refusal.proofs.Rooms.{earlier-refused, room-refused, room-enough}
 use Rattle.circuit.specs.Bytes.{putAt, Bytes}
 use Rattle.circuit.specs.Gates.{bytesOf}
 use Rattle.circuit.specs.File.{wiresOf, gatesOf, fileChecks, fileOf, headerBytes}
-use Rattle.running.specs.Run.{scores, cnots, score}
+use Rattle.running.specs.Run.{freeTurn, scores, cnots, score}
 use Rattle.circuit.proofs.Callers.{good-file}
 use Rattle.circuit.proofs.Files.{length-file}
 use Rattle.circuit.proofs.Writing.{put-fits, put-put}
@@ -67,7 +67,7 @@ module _ (f : List ℕ) (bytes : Bytes f) (e : outcome (fileChecks 0 f) ≡ pass
       let gs = folded (wiresOf f) (gatesOf f) in
       let k : crossing + stay ≡ length gs = ap₂ _+_ p (q ∙ of-totals staying) ∙ sym (length-folded (wiresOf f) (gatesOf f) mostWires few) in
       record {
-        after = r ∙ of-totals scores ∙ sym (score-of-totals (wiresOf f) (gatesOf f) mostWires few);
+        after = r ∙ of-totals (scores freeTurn) ∙ sym (score-of-totals (wiresOf f) (gatesOf f) freeTurn mostWires few);
         kept = k;
         few = omega (arith, few-gates 0 f bytes e);
         whole = ap (λ (n : ℕ). 8 + 4 * n) k ∙ sym (length-file (wiresOf f) gs);

@@ -1,24 +1,23 @@
 -- How many gates the folded list has and what they score, by the groups' totals; the score never rises.
-use Prim.Native.Nat.{ℕ, zero, suc, _+_, _*_, _%_, _^_, _≤_}
-use native.Mathlib.Nat.{mul-zero, zero-mul, one-mul, mul-one, le-trans}
-use native.Mathlib.Decide.{ℕ-discrete}
+use Prim.Native.Nat.{ℕ, zero, suc, _+_, _*_, _^_, _≤_, _∣_}
+use native.Mathlib.Nat.{mul-one, le-trans, dvd-zero, dvd-mul-left-of-dvd, dvd-mul-right-of-dvd, dvd-mod-iff, dvd-of-mod-eq-zero}
 use native.Mathlib.Omega.{arith}
 use mathlib.Core.Path.{_≡_, refl, sym, ap, _∙_}
-use mathlib.Core.Bool.{Bool, true, false, not}
+use mathlib.Core.Bool.{Bool, true, false}
 use mathlib.Core.List.{List}
 use lib.Dec.{eqb}
 use lib.ListN.{length}
 use lib.Pow.{pow-mono}
-use borrow.Author.Tests.{ne-eqb}
 use Rattle.numbers.specs.Bits.{indicator, equal}
 use Rattle.numbers.specs.Sums.{sum}
 use Rattle.numbers.proofs.Sums.{sumOf-ext}
 use Rattle.numbers.proofs.Singles.{sum-≤}
 use Rattle.circuit.specs.declared.Gate.{Gate}
-use Rattle.running.specs.Run.{scores, cnots, score}
+use Rattle.running.specs.Run.{freeTurn, scores, scoreBy, cnots, score}
 use Rattle.running.specs.Masks.{ownMasks, sumMet}
 use Rattle.running.proofs.Masks.{own-below}
-use Rattle.running.proofs.Groups.{collect, sum-vanishes, score-met}
+use Rattle.running.proofs.Groups.{collect, sum-divides, score-met}
+use Rattle.running.proofs.Counts.{scores-at-most-one, multiple-is-free, free-is-multiple}
 use Rattle.running.specs.Groups.{groupTotal}
 use Rattle.fold.specs.Fold.{folded}
 use Rattle.fold.specs.Working.{staying}
@@ -26,19 +25,10 @@ use Rattle.fold.proofs.Remaining.{counts-remain}
 use Rattle.fold.proofs.Positions.{folded-remains}
 use Rattle.fold.proofs.Folding.{group-folded}
 
--- a group without a scored gate has total 0
-unscored : (m k a : ℕ) → scores a * equal k m ≡ 0 → a * equal k m ≡ 0
-unscored m k a e = by (ℕ-discrete a 0)
-  where
-    by : Dec (a ≡ 0) → a * equal k m ≡ 0
-    by (yes d) = ap (_* equal k m) d ∙ zero-mul (equal k m)
-    by (no d) =
-        let one : scores a ≡ 1 = ap (λ b. indicator (not b)) (ne-eqb a 0 d) in
-        ap (a *_) (sym (one-mul (equal k m)) ∙ ap (_* equal k m) (sym one) ∙ e) ∙ mul-zero a
-
-pub at-most-one : (b : Bool) → indicator b ≤ 1
-at-most-one true = omega arith
-at-most-one false = omega arith
+-- an angle that counts for its group and does not score is a multiple, and so is one that does not count
+unscored : (d a : ℕ) (b : Bool) → scores d a * indicator b ≡ 0 → d ∣ a * indicator b
+unscored d a true e = dvd-mul-right-of-dvd d (free-is-multiple d a (omega arith)) 1
+unscored d a false e = dvd-mul-left-of-dvd d (dvd-zero d) a
 
 module _ (w : ℕ) (gs : List Gate) where
   -- what counts by the angle, of any list, mask by mask among those of v wires
@@ -53,20 +43,30 @@ module _ (w : ℕ) (gs : List Gate) where
       (λ m k. mul-one (sumMet (λ k a. h a * equal k m) (folded w gs) (ownMasks w)) ∙ group-folded w gs h none m)
 
   -- the score afterwards is that of the totals
-  pub score-of-totals : (v : ℕ) → w ≤ v → score (folded w gs) ≡ sum (2 ^ v) (λ m. scores (groupTotal w gs m))
-  score-of-totals v h = score-met (folded w gs) (ownMasks w) ∙ counts-totals scores refl v h
+  pub score-of-totals : (d v : ℕ) → w ≤ v → scoreBy d (folded w gs) ≡ sum (2 ^ v) (λ m. scores d (groupTotal w gs m))
+  score-of-totals d v h = score-met d (folded w gs) (ownMasks w) ∙ counts-totals (scores d) (multiple-is-free d 0 (dvd-zero d)) v h
 
+  -- whatever divides a full turn divides a group's total if it divides each of its angles
+  module _ (d : ℕ) (turn : d ∣ 65536) where
+    pub free-total : (m : ℕ) → sumMet (λ k a. scores d a * equal k m) gs (ownMasks w) ≡ 0 → d ∣ groupTotal w gs m
+    free-total m e = dvd-mod-iff d turn .1 (sum-divides d (λ k a. scores d a * equal k m) (λ k a. a * equal k m) (λ k a. unscored d a (eqb k m)) gs (ownMasks w) e)
+
+    -- so a total that scores has a member that scores
+    pub scored-member : (m : ℕ) → scores d (groupTotal w gs m) ≤ sumMet (λ k a. scores d a * equal k m) gs (ownMasks w)
+    scored-member m = by (sumMet (λ k a. scores d a * equal k m) gs (ownMasks w)) refl
+      where
+        by : (n : ℕ) → sumMet (λ k a. scores d a * equal k m) gs (ownMasks w) ≡ n → scores d (groupTotal w gs m) ≤ n
+        by zero e = omega (arith, multiple-is-free d (groupTotal w gs m) (free-total m e))
+        by (suc n) e = omega (arith, scores-at-most-one d (groupTotal w gs m))
+
+    pub score-falls-by : scoreBy d (folded w gs) ≤ scoreBy d gs
+    score-falls-by =
+        rw (score-of-totals d w (omega arith), score-met d gs (ownMasks w), by-masks (scores d) w (omega arith) gs)
+        (sum-≤ (2 ^ w) (λ m. scores d (groupTotal w gs m)) (λ m. sumMet (λ k a. scores d a * equal k m) gs (ownMasks w) * 1) (λ m l. omega (arith, scored-member m)))
+
+  -- 02 §2, "folding never raises the new score"
   pub score-falls : score (folded w gs) ≤ score gs
-  score-falls =
-      rw (score-of-totals w (omega arith), score-met gs (ownMasks w), by-masks scores w (omega arith) gs)
-      (sum-≤ (2 ^ w) (λ m. scores (groupTotal w gs m)) (λ m. sumMet (λ k a. scores a * equal k m) gs (ownMasks w) * 1)
-      (λ m l. by m (sumMet (λ k a. scores a * equal k m) gs (ownMasks w)) refl))
-    where
-      by : (m n : ℕ) → sumMet (λ k a. scores a * equal k m) gs (ownMasks w) ≡ n → scores (groupTotal w gs m) ≤ n * 1
-      by m zero e =
-          let z : scores (groupTotal w gs m) ≡ 0 = ap (λ (t : ℕ). scores (t % 65536)) (sum-vanishes (λ k a. scores a * equal k m) (λ k a. a * equal k m) (λ k a. unscored m k a) gs (ownMasks w) e) in
-          omega arith
-      by m (suc n) e = omega (arith, at-most-one (not (eqb (groupTotal w gs m) 0)))
+  score-falls = score-falls-by freeTurn (dvd-of-mod-eq-zero freeTurn refl)
 
   -- what stays are the CNOTs, and a gate for each total that is not 0
   pub length-folded : (v : ℕ) → w ≤ v → length (folded w gs) ≡ cnots gs + sum (2 ^ v) (λ m. staying (groupTotal w gs m))

@@ -9,7 +9,7 @@ use Rattle.numbers.specs.Sums.{sum}
 use Rattle.circuit.specs.declared.Gate.{Gate}
 use Rattle.circuit.specs.declared.Gate.the-variants.{Cnot, Phase}
 use Rattle.circuit.specs.Gates.{bytesOf}
-use Rattle.running.specs.Run.{scores}
+use Rattle.running.specs.Run.{freeTurn, scores}
 use Rattle.running.specs.Masks.{Met, Mixed, Mask, masksAfter, met}
 use Rattle.fold.specs.declared.writer.Left.{Left}
 use Rattle.fold.specs.declared.writer.Left.the-variants.{Stays, Goes}
@@ -24,7 +24,7 @@ abbrev pub keptIn : List ℕ → ℕ
 keptIn ts = sum (length ts) (λ m. staying (getD ts m 0))
 
 abbrev pub scoreIn : List ℕ → ℕ
-scoreIn ts = sum (length ts) (λ m. scores (getD ts m 0))
+scoreIn ts = sum (length ts) (λ m. scores freeTurn (getD ts m 0))
 
 -- "the wrapped sum of the group" that a gate finds at the mask that it meets
 abbrev pub found : Met → List ℕ → ℕ

@@ -1,8 +1,8 @@
 -- The second demand: "The spectrum, the circuit built from it, the folded circuit and the end state and phase of a run equal the published construction and rules condensed in document 01,
 -- gate for gate and angle for angle." Where a call's checks pass, what is answered and what the lent slice then holds.
-use Prim.Native.Nat.{ℕ, _+_, _-_, _^_, _<_}
+use Prim.Native.Nat.{ℕ, _+_, _-_, _^_, _<_, _≤_}
 use native.Mathlib.Omega.{arith}
-use mathlib.Core.Path.{_≡_, ap, _∙_}
+use mathlib.Core.Path.{_≡_, refl, ap, _∙_}
 use mathlib.Core.List.{List, _++_}
 use lib.ListN.{length, getD, drop, List·getD-append}
 use lib.IntN.{ℤ, pos}
@@ -33,7 +33,8 @@ use Rattle.fold.specs.declared.Folded.{Folded}
 use Rattle.fold.specs.declared.Folded.the-variants.{File}
 use Rattle.fold.specs.Fold.{folded, foldedFile, foldChecks, foldedSays, Folds}
 use Rattle.fold.proofs.Files.{same-wires, gates-of-folded}
-use Rattle.fold.proofs.Callers.{folded-distinct}
+use Rattle.fold.proofs.Scores.{score-falls}
+use Rattle.fold.proofs.Callers.{fold-answers, folded-distinct}
 
 -- "s_k is the sum over x of +1 or -1, minus when f(x) + k.x is odd": each entry
 pub record PaperSpectrum (n : ℕ) (t : List ℕ) (out : List ℤ) (answer : Transformed) (after : List ℤ) : Type 0 where
@@ -84,6 +85,12 @@ pub fold-paper : (f out : List ℕ) (a : Folded) (after : List ℕ) → Bytes f 
 fold-paper f out a after b m p =
     let r = when-passed foldedSays _ _ (foldedFile f) out a after p m in
     record { answers = folded-distinct a (File (length (foldedFile f)) (score (gatesOf f)) (score (folded (wiresOf f) (gatesOf f)))) (r .0); holds = r .1; gates = gates-of-folded 0 f b (parts-pass (fileChecks 0 f) _ p .0); wires = same-wires f }
+
+-- 02 §2, "folding never raises the new score"
+pub never-raises : (f out : List ℕ) (l before after : ℕ) (x : List ℕ) → Folds f out (File l before after) x → after ≤ before
+never-raises f out l before after x m =
+    let r = fold-answers f out (File l before after) x m l before after refl in
+    rw (r .was, r .is) (score-falls (wiresOf f) (gatesOf f))
 
 -- "the end state and phase of a run"
 pub run-paper : (f : List ℕ) (start : ℕ) (a : Ran) → Runs f start a → outcome (runChecks f start) ≡ passed → a ≡ End (endFrom (gatesOf f) start) (phaseFrom (gatesOf f) start)

@@ -1,6 +1,7 @@
 -- 01, "These programs are to be shown unacceptable", as theorems over the contracts, each with the input that shows it.
-use Prim.Native.Nat.{ℕ, zero, suc}
-use native.Mathlib.Decide.{ℕ-discrete}
+use Prim.Native.Nat.{ℕ, zero, suc, _<_, _∣_}
+use native.Mathlib.Nat.{dvd-refl, dvd-antisymm, le-of-dvd}
+use native.Mathlib.Decide.{ℕ-discrete, decDvd}
 use native.Mathlib.Omega.{arith}
 use mathlib.Core.Path.{_≡_, refl, sym, ap, _∙_}
 use mathlib.Core.Bool.{false}
@@ -19,9 +20,14 @@ use Rattle.spectrum.specs.Spectrum.{spectrumChecks, transformedSays}
 use Rattle.circuit.specs.declared.Gate.the-variants.{Cnot, Phase}
 use Rattle.circuit.specs.declared.Reading.the-variants.{Refused as ReadRefused}
 use Rattle.circuit.specs.Gates.{decoded, firstBad, gatesFrom, bytesOf}
-use Rattle.circuit.specs.File.{headerBytes, fileOf, fileChecks, readingSays, Reads}
+use Rattle.circuit.specs.Working.{AllSound}
+use Rattle.circuit.specs.File.{headerBytes, gatesOf, fileOf, fileChecks, readingSays, Reads}
+use Rattle.circuit.proofs.Files.{list-written}
+use Rattle.running.specs.declared.Counted.{Counted}
 use Rattle.running.specs.declared.Counted.the-variants.{Gates}
-use Rattle.running.specs.Run.{endFrom, totalFrom, cnots, phases, score, runChecks, ranSays, countedSays, Counts}
+use Rattle.running.specs.Run.{endFrom, totalFrom, cnots, phases, freeTurn, scores, scoreBy, runChecks, ranSays, countedSays, Counts}
+use Rattle.running.proofs.Counts.{multiple-is-free, free-is-multiple}
+use Rattle.running.proofs.Callers.{count-answers}
 use Rattle.running.specs.Masks.{masksFrom, sumMet}
 use Rattle.build.specs.declared.Built.the-variants.{Length as BuiltLength}
 use Rattle.build.specs.Construction.{buildChecks, builtSays, Builds}
@@ -40,7 +46,7 @@ use Rattle.oracle_listing.specs.Oracle.{oracleChecks}
 use Rattle.oracle_listing.proofs.Callers.{room-for-text}
 use Rattle.promises.specs.Demands.{Refuses}
 use Rattle.promises.specs.Cases.{builtHere, empty, cases}
-use Rattle.promises.specs.Wrong.{Unacceptable, checking, transforming, reading, running, counting, building, folding, comparing, judging, listing, listingOracle, RefusesEverything, AlwaysFinds, LeavesBuffer, Copies, firstMask, firstGroup, FoldsFirstGroup, AlwaysScores, AlwaysScoresBefore, AlwaysScoresAfter, AlwaysReasons, lastReason, ReasonsByLast}
+use Rattle.promises.specs.Wrong.{Unacceptable, checking, transforming, reading, running, counting, building, folding, comparing, judging, listing, listingOracle, RefusesEverything, AlwaysFinds, LeavesBuffer, Copies, firstMask, firstGroup, FoldsFirstGroup, AlwaysScores, AlwaysScoresBefore, AlwaysScoresAfter, ScoresBy, AlwaysReasons, lastReason, ReasonsByLast}
 use Rattle.promises.proofs.OneAnswer.{one-reading, one-count, one-build, one-fold, one-comparison, one-judgement}
 use Rattle.promises.proofs.Cases.{cases-hold}
 
@@ -118,7 +124,7 @@ one-cnot = fileOf 2 (Cnot 0 1 ∷ [])
 
 cnot-differs : Compares one-cnot empty (replicate 4 0) (Found (Different 1 3 1 0)) (replicate 4 0)
 unfolding one-cnot cases
-cnot-differs = cases-hold .1 .1 .1 .1 .1 .1 .1 .1 .0
+cnot-differs = cases-hold .1 .1 .1 .1 .1 .1 .1 .1 .1 .1 .1 .1 .0
 
 -- Same fails where CNOT 0 to 1 meets the empty circuit; any Different fails where a circuit meets itself
 pub constant-verdict : (v : Verdict) → Unacceptable comparing (AlwaysFinds v)
@@ -169,7 +175,7 @@ opposite : List ℕ
 opposite = fileOf 1 (Phase 0 1 ∷ Phase 0 65535 ∷ [])
 
 opposite-folds : Folds opposite (replicate 16 0) (File 8 2 0) (fileOf 1 [] ++ replicate 8 0)
-unfolding opposite outcome fileOf bytesOf decoded firstBad gatesFrom foldedFrom masksFrom sumMet score
+unfolding opposite outcome fileOf bytesOf decoded firstBad gatesFrom foldedFrom masksFrom sumMet scoreBy
 opposite-folds = record { says = refl; leaves = refl }
 
 pub copies : Unacceptable folding Copies
@@ -184,7 +190,7 @@ two-groups : List ℕ
 two-groups = fileOf 2 (Phase 0 1 ∷ Phase 0 2 ∷ Phase 1 3 ∷ Phase 1 4 ∷ [])
 
 two-groups-fold : Folds two-groups (replicate 24 0) (File 16 4 2) (fileOf 2 (Phase 0 3 ∷ Phase 1 7 ∷ []) ++ replicate 8 0)
-unfolding two-groups outcome fileOf bytesOf decoded firstBad gatesFrom foldedFrom masksFrom sumMet score
+unfolding two-groups outcome fileOf bytesOf decoded firstBad gatesFrom foldedFrom masksFrom sumMet scoreBy
 two-groups-fold = record { says = refl; leaves = refl }
 
 pub first-group-only : Unacceptable folding FoldsFirstGroup
@@ -200,20 +206,20 @@ one-phase : List ℕ
 one-phase = fileOf 2 (Phase 0 1 ∷ [])
 
 none-counted : Counts empty (Gates 0 0 0)
-unfolding outcome fileOf bytesOf firstBad gatesFrom cnots phases score
+unfolding outcome fileOf bytesOf firstBad gatesFrom cnots phases scoreBy
 none-counted = refl
 
 one-counted : Counts one-phase (Gates 0 1 1)
-unfolding one-phase outcome fileOf bytesOf decoded firstBad gatesFrom cnots phases score
+unfolding one-phase outcome fileOf bytesOf decoded firstBad gatesFrom cnots phases scoreBy
 one-counted = refl
 
 -- folding's scores are both 1 for the one phase gate, 0 for no gate
 one-folded : Folds one-phase (replicate 12 0) (File 12 1 1) one-phase
-unfolding one-phase outcome fileOf bytesOf decoded firstBad gatesFrom foldedFrom masksFrom sumMet score
+unfolding one-phase outcome fileOf bytesOf decoded firstBad gatesFrom foldedFrom masksFrom sumMet scoreBy
 one-folded = record { says = refl; leaves = refl }
 
 none-folded : Folds empty (replicate 8 0) (File 8 0 0) empty
-unfolding outcome fileOf bytesOf firstBad gatesFrom foldedFrom score
+unfolding outcome fileOf bytesOf firstBad gatesFrom foldedFrom scoreBy
 none-folded = record { says = refl; leaves = refl }
 
 -- a number that is 1 for one input and 0 for another is no constant
@@ -240,6 +246,33 @@ invented-score-after =
     invented folding AlwaysScoresAfter (one-phase, replicate 12 0) (empty, replicate 8 0)
     (λ s a x m e. let q : File (e .0) (e .1) s ≡ File 12 1 1 = sym (e .2) ∙ one-fold one-phase (replicate 12 0) a _ x _ m one-folded .0 in cc)
     (λ s a x m e. let q : File (e .0) (e .1) s ≡ File 8 0 0 = sym (e .2) ∙ one-fold empty (replicate 8 0) a _ x _ m none-folded .0 in cc)
+
+-- ---- another price
+
+-- one phase gate of an angle
+alone : ℕ → List ℕ
+alone a = fileOf 1 (Phase 0 a ∷ [])
+
+-- a score by d is the contract's only where both have the angle free, or neither
+same-price : (d a : ℕ) → a < 65536 → (r : Counted) (x : List ℕ) → ScoresBy d (alone a) r x → Counts (alone a) r → scores d a ≡ scores freeTurn a
+unfolding alone AllSound scoreBy
+same-price d a l r x e m =
+    let g : gatesOf (fileOf 1 (Phase 0 a ∷ [])) ≡ Phase 0 a ∷ [] = list-written 1 (Phase 0 a ∷ []) ((omega arith, l), tt) in
+    let k = rw g at (count-answers (alone a) r m (e .0) (e .1) (scoreBy d (gatesOf (alone a))) (e .2) .has-score) in
+    omega arith
+
+pub another-price : (d : ℕ) → ¬ (d ≡ freeTurn) → Unacceptable counting (ScoresBy d)
+another-price d other = by (decDvd d freeTurn)
+  where
+    by : Dec (d ∣ freeTurn) → Unacceptable counting (ScoresBy d)
+    by (yes h) = record {
+      input = alone d;
+      fails = λ r x e m. other (dvd-antisymm h (free-is-multiple freeTurn d (sym (same-price d d (omega (arith, le-of-dvd {m = d} {n = freeTurn} (omega arith) h)) r x e m) ∙ multiple-is-free d d (dvd-refl d))));
+    }
+    by (no n) = record {
+      input = alone freeTurn;
+      fails = λ r x e m. n (free-is-multiple d freeTurn (same-price d freeTurn (omega arith) r x e m ∙ multiple-is-free freeTurn freeTurn (dvd-refl freeTurn)));
+    }
 
 -- ---- an invented reason
 

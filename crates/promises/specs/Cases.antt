@@ -1,4 +1,5 @@
--- 01, "Cases on each side": the cases marked (p), and what "Listing" says of the program's inputs. Each lends a slice that is just as long as the result.
+-- 01, "Cases on each side": the cases marked (p) and the built file of two variables, and what "Listing" says of the program's inputs. Each lends a slice that is just as long as the result.
+-- The scores are by 02 §2: "01's built files fall from 3 to 0 and from 8 to 7."
 use Prim.Native.Nat.{ℕ}
 use mathlib.Core.List.{List, [], _∷_}
 use lib.ListN.{length, replicate}
@@ -57,6 +58,14 @@ builtHere =
     0x50 ∷ 0x48 ∷ 0x47 ∷ 0x00 ∷ 0x01 ∷ 0x02 ∷ 0x00 ∷ 0x06 ∷ 0x02 ∷ 0x01 ∷ 0x40 ∷ 0x00 ∷ 0x02 ∷ 0x00 ∷ 0x40 ∷ 0x00 ∷ 0x02 ∷ 0x01 ∷ 0x00 ∷ 0x00 ∷ 0x01 ∷ 0x00
     ∷ 0x01 ∷ 0x00 ∷ 0x02 ∷ 0x01 ∷ 0xC0 ∷ 0x00 ∷ 0x01 ∷ 0x00 ∷ 0x01 ∷ 0x00 ∷ []
 
+-- "For n 2, byte 08: 14 gates, folding to 13, ..; its first gate becomes phase 8,192 on wire 2."
+abbrev pub builtOfTwo : List ℕ
+builtOfTwo =
+    fileOf 3 (Phase 2 16384 ∷ Phase 0 8192 ∷ Phase 1 8192 ∷ Cnot 0 1 ∷ Phase 1 57344 ∷ Cnot 0 1 ∷ Phase 2 57344 ∷ Cnot 0 2 ∷ Phase 2 57344 ∷ Cnot 1 2 ∷ Phase 2 8192 ∷ Cnot 0 2 ∷ Phase 2 57344 ∷ Cnot 1 2 ∷ [])
+
+abbrev pub foldedOfTwo : List ℕ
+foldedOfTwo = fileOf 3 (Phase 2 8192 ∷ Phase 0 8192 ∷ Phase 1 8192 ∷ Cnot 0 1 ∷ Phase 1 57344 ∷ Cnot 0 1 ∷ Cnot 0 2 ∷ Phase 2 57344 ∷ Cnot 1 2 ∷ Phase 2 8192 ∷ Cnot 0 2 ∷ Phase 2 57344 ∷ Cnot 1 2 ∷ [])
+
 -- "the empty circuit on 2 wires"
 abbrev pub empty : List ℕ
 empty = fileOf 2 []
@@ -72,7 +81,11 @@ cases =
     ∷ spectrum 2 (0x06 ∷ []) (pos 0 ∷ pos 0 ∷ pos 0 ∷ pos 4 ∷ [])
     ∷ spectrum 3 (0xE8 ∷ []) (pos 0 ∷ pos 4 ∷ pos 4 ∷ pos 0 ∷ pos 4 ∷ pos 0 ∷ pos 0 ∷ negsuc 3 ∷ [])
     ∷ built 1 (0x02 ∷ []) builtHere
-    ∷ counted builtHere 2 4 3
+    ∷ counted builtHere 2 4 0
+    ∷ built 2 (0x08 ∷ []) builtOfTwo
+    ∷ counted builtOfTwo 6 8 7
+    ∷ folds builtOfTwo foldedOfTwo 7 7
+    ∷ counted foldedOfTwo 6 7 7
     ∷ folds (fileOf 1 (Phase 0 1 ∷ Phase 0 65535 ∷ [])) (fileOf 1 []) 2 0
     ∷ folds (fileOf 2 (Phase 1 5 ∷ Cnot 0 1 ∷ Phase 1 7 ∷ Cnot 0 1 ∷ Phase 1 9 ∷ [])) (fileOf 2 (Phase 1 14 ∷ Cnot 0 1 ∷ Phase 1 7 ∷ Cnot 0 1 ∷ [])) 3 2
     ∷ compared (fileOf 2 (Cnot 0 1 ∷ [])) empty (Different 1 3 1 0) (0 ∷ 0 ∷ 0 ∷ 0 ∷ [])
@@ -80,7 +93,9 @@ cases =
     ∷ compared builtHere empty (Different 3 3 3 32768) (0 ∷ 0 ∷ 0 ∷ 32768 ∷ [])
     ∷ compared (threefold 32768) empty Same (0 ∷ 0 ∷ 0 ∷ 0 ∷ [])
     -- "equal circuits may have different folded parities": this one keeps its three groups
-    ∷ folds (threefold 32768) (threefold 32768) 3 3
+    ∷ folds (threefold 32768) (threefold 32768) 0 0
+    -- a total of 16,384 stays, and is free
+    ∷ folds (fileOf 1 (Phase 0 8192 ∷ Phase 0 8192 ∷ [])) (fileOf 1 (Phase 0 16384 ∷ [])) 2 0
     ∷ compared (threefold 16384) empty (Different 1 1 1 32768) (0 ∷ 32768 ∷ 32768 ∷ 32768 ∷ [])
     ∷ prints (0x01 ∷ 0x02 ∷ [])
     (ascii

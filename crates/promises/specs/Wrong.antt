@@ -23,7 +23,7 @@ use Rattle.circuit.specs.File.{wiresOf, countOf, gatesOf, fileOf, Reads}
 use Rattle.running.specs.declared.Ran.{Ran}
 use Rattle.running.specs.declared.Counted.{Counted}
 use Rattle.running.specs.declared.Counted.the-variants.{Gates}
-use Rattle.running.specs.Run.{Runs, Counts}
+use Rattle.running.specs.Run.{Runs, scoreBy, Counts}
 use Rattle.running.specs.Masks.{ownMasks, masksAfter}
 use Rattle.build.specs.declared.Built.{Built}
 use Rattle.build.specs.Construction.{Builds}
@@ -135,6 +135,10 @@ JudgesFirst k input answer after = answer ≡ Found (verdictAmong k (circuit (ga
 -- "an invented score": whatever the file
 abbrev pub AlwaysScores : ℕ → List ℕ → Counted → List ℕ → Type 0
 AlwaysScores s input answer after = (c : ℕ) × (p : ℕ) × (answer ≡ Gates c p s)
+
+-- 02 §2, "isn't a multiple of 16,384": the multiples of another number are free
+abbrev pub ScoresBy : ℕ → List ℕ → Counted → List ℕ → Type 0
+ScoresBy d input answer after = (c : ℕ) × (p : ℕ) × (answer ≡ Gates c p (scoreBy d (gatesOf input)))
 
 -- the same of folding's two scores
 abbrev pub AlwaysScoresBefore : ℕ → List ℕ × List ℕ → Folded → List ℕ → Type 0

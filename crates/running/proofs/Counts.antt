@@ -1,12 +1,14 @@
 -- The counts, gate by gate.
-use Prim.Native.Nat.{ℕ, _+_, _≤_}
-use native.Mathlib.Nat.{zero-add, add-zero}
+use Prim.Native.Nat.{ℕ, _+_, _%_, _≤_, _∣_}
+use native.Mathlib.Nat.{zero-add, add-zero, mod-eq-zero-of-dvd, dvd-of-mod-eq-zero}
+use native.Mathlib.Decide.{ℕ-discrete}
 use native.Mathlib.Omega.{arith}
 use mathlib.Core.Bool.{Bool, true, false, not}
 use mathlib.Core.Path.{_≡_, refl, sym, ap}
 use mathlib.Core.List.{List, [], _∷_}
 use lib.Dec.{eqb}
 use lib.ListN.{length}
+use borrow.Author.Tests.{eq-eqb, ne-eqb}
 use Rattle.numbers.specs.Bits.{indicator}
 use Rattle.circuit.specs.declared.Gate.{Gate}
 use Rattle.circuit.specs.declared.Gate.the-variants.{Cnot, Phase}
@@ -15,7 +17,7 @@ use Rattle.circuit.specs.Bytes.{Bytes}
 use Rattle.circuit.specs.File.{countOf, gatesOf, fileChecks}
 use Rattle.circuit.proofs.Callers.{good-file}
 use Rattle.circuit.proofs.Files.{length-gates}
-use Rattle.running.specs.Run.{cnots, phases, score}
+use Rattle.running.specs.Run.{freeTurn, scores, scoreBy, cnots, phases, score}
 
 pub cnots-cons : (g : Gate) (gs : List Gate) → cnots (g ∷ gs) ≡ cnots (g ∷ []) + cnots gs
 unfolding cnots
@@ -23,19 +25,40 @@ cnots-cons (Cnot c t) gs = refl
 cnots-cons (Phase i a) gs = sym (zero-add (cnots gs))
 
 pub score-cons : (g : Gate) (gs : List Gate) → score (g ∷ gs) ≡ score (g ∷ []) + score gs
-unfolding score
+unfolding scoreBy
 score-cons (Cnot c t) gs = sym (zero-add (score gs))
-score-cons (Phase i a) gs = ap (_+ score gs) (sym (add-zero (indicator (not (eqb a 0)))))
+score-cons (Phase i a) gs = ap (_+ score gs) (sym (add-zero (scores freeTurn a)))
+
+pub at-most-one : (b : Bool) → indicator b ≤ 1
+at-most-one true = omega arith
+at-most-one false = omega arith
+
+-- an angle scores 0 or 1, and 0 exactly where it is a multiple
+module _ (d a : ℕ) where
+  pub scores-at-most-one : scores d a ≤ 1
+  scores-at-most-one = at-most-one (not (eqb (a % d) 0))
+
+  pub scores-nothing : a % d ≡ 0 → scores d a ≡ 0
+  scores-nothing e = ap (λ b. indicator (not b)) (eq-eqb (a % d) 0 e)
+
+  pub scores-one : ¬ (a % d ≡ 0) → scores d a ≡ 1
+  scores-one n = ap (λ b. indicator (not b)) (ne-eqb (a % d) 0 n)
+
+  pub multiple-is-free : d ∣ a → scores d a ≡ 0
+  multiple-is-free h = scores-nothing (mod-eq-zero-of-dvd d h)
+
+  pub free-is-multiple : scores d a ≡ 0 → d ∣ a
+  free-is-multiple e = by (ℕ-discrete (a % d) 0)
+    where
+      by : Dec (a % d ≡ 0) → d ∣ a
+      by (yes p) = dvd-of-mod-eq-zero d p
+      by (no p) = absurd (omega (arith, scores-one p))
 
 -- a gate is a CNOT, or may score, and not both
 pub one-counted : (g : Gate) → cnots (g ∷ []) + score (g ∷ []) ≤ 1
-unfolding cnots score
+unfolding cnots scoreBy
 one-counted (Cnot c t) = omega arith
-one-counted (Phase i a) = let h = at-most (not (eqb a 0)) in omega arith
-  where
-    at-most : (b : Bool) → indicator b ≤ 1
-    at-most true = omega arith
-    at-most false = omega arith
+one-counted (Phase i a) = let h = scores-at-most-one freeTurn a in omega arith
 
 -- every gate is a CNOT or a phase gate
 pub gates-counted : (gs : List Gate) → cnots gs + phases gs ≡ length gs

@@ -1,6 +1,6 @@
 -- Phase gates by the mask that they meet: a sum over the gates, collected mask by mask.
-use Prim.Native.Nat.{ℕ, _+_, _*_, _^_, _<_, _≤_}
-use native.Mathlib.Nat.{add-mul, zero-mul, mul-zero}
+use Prim.Native.Nat.{ℕ, _+_, _*_, _^_, _<_, _≤_, _∣_}
+use native.Mathlib.Nat.{add-mul, zero-mul, mul-zero, dvd-zero, dvd-add}
 use native.Mathlib.Decide.{decLt}
 use native.Mathlib.Omega.{arith}
 use mathlib.Core.Path.{_≡_, refl, sym, ap, ap₂, _∙_}
@@ -16,9 +16,9 @@ use Rattle.numbers.proofs.Turns.{≈-of, _≈∙_}
 use Rattle.numbers.proofs.Subsets.{sum-pick}
 use Rattle.circuit.specs.declared.Gate.{Gate}
 use Rattle.circuit.specs.declared.Gate.the-variants.{Cnot, Phase}
-use Rattle.running.specs.Run.{scores, score}
+use Rattle.running.specs.Run.{scores, scoreBy}
 use Rattle.circuit.specs.File.{wiresOf, gatesOf}
-use Rattle.running.specs.Masks.{mostWires, mostMasks, ownMasks, masksAfter, met, metBy, sumMet}
+use Rattle.running.specs.Masks.{mostWires, mostMasks, Met, Mixed, Mask, ownMasks, masksAfter, met, metBy, sumMet}
 use Rattle.running.specs.Groups.{groupTotal, totalsOf}
 use Rattle.running.proofs.Masks.{MasksBelow, own-below, after-below, sum-none, sum-cons}
 use Rattle.running.proofs.Meetings.{sumMet-≈}
@@ -42,25 +42,24 @@ module _ (h p : ℕ → ℕ) (v : ℕ) where
       ∙ sumOf-ext 0 _+_ (2 ^ v) (λ m. metBy (λ k a. h a * equal k m) (met g ms) * p m + sumMet (λ k a. h a * equal k m) gs (masksAfter g ms) * p m) (λ m. sumMet (λ k a. h a * equal k m) (g ∷ gs) ms * p m)
       (λ m l. sym (ap (_* p m) (sum-cons (λ k a. h a * equal k m) g gs ms) ∙ add-mul (metBy (λ k a. h a * equal k m) (met g ms)) (sumMet (λ k a. h a * equal k m) gs (masksAfter g ms)) (p m)))
 
--- where one sum is 0, so is another whose terms are 0 with its terms
-pub sum-vanishes : (f g : ℕ → ℕ → ℕ) → ((k a : ℕ) → f k a ≡ 0 → g k a ≡ 0) → (gs : List Gate) (ms : List ℕ) → sumMet f gs ms ≡ 0 → sumMet g gs ms ≡ 0
-sum-vanishes f g h [] ms e = sum-none g ms
-sum-vanishes f g h (Cnot c t ∷ gs) ms e =
-    let d = sum-cons f (Cnot c t) gs ms in
-    let r = sum-vanishes f g h gs (masksAfter (Cnot c t) ms) (omega arith) in
-    sum-cons g (Cnot c t) gs ms ∙ omega arith
-sum-vanishes f g h (Phase i a ∷ gs) ms e =
-    let d = sum-cons f (Phase i a) gs ms in
-    let r = sum-vanishes f g h gs ms (omega arith) in
-    let q = h (getD ms i 0) a (omega arith) in
-    sum-cons g (Phase i a) gs ms ∙ omega arith
+-- where one sum is 0, what divides each term of another whose own term is 0 divides the other sum
+module _ (d : ℕ) (f g : ℕ → ℕ → ℕ) (h : (k a : ℕ) → f k a ≡ 0 → d ∣ g k a) where
+  term-divides : (x : Met) → metBy f x ≡ 0 → d ∣ metBy g x
+  term-divides Mixed e = dvd-zero d
+  term-divides (Mask k a) e = h k a e
+
+  pub sum-divides : (gs : List Gate) (ms : List ℕ) → sumMet f gs ms ≡ 0 → d ∣ sumMet g gs ms
+  sum-divides [] ms e = rw (sum-none g ms) (dvd-zero d)
+  sum-divides (x ∷ gs) ms e =
+      let c = sum-cons f x gs ms in
+      rw (sum-cons g x gs ms) (dvd-add d (term-divides (met x ms) (omega arith)) (sum-divides gs (masksAfter x ms) (omega arith)))
 
 -- the score as such a sum, whatever the masks
-pub score-met : (gs : List Gate) (ms : List ℕ) → score gs ≡ sumMet (λ k a. scores a * 1) gs ms
-unfolding score sumMet
-score-met [] ms = refl
-score-met (Cnot c t ∷ gs) ms = let r = score-met gs (masksAfter (Cnot c t) ms) in omega arith
-score-met (Phase i a ∷ gs) ms = let r = score-met gs ms in omega arith
+pub score-met : (d : ℕ) (gs : List Gate) (ms : List ℕ) → scoreBy d gs ≡ sumMet (λ k a. scores d a * 1) gs ms
+unfolding scoreBy sumMet
+score-met d [] ms = refl
+score-met d (Cnot c t ∷ gs) ms = let r = score-met d gs (masksAfter (Cnot c t) ms) in omega arith
+score-met d (Phase i a ∷ gs) ms = let r = score-met d gs ms in omega arith
 
 -- no gate meets a mask of 2^w or more
 sum-nothing : (gs : List Gate) (ms : List ℕ) → sumMet (λ k a. 0) gs ms ≡ 0

@@ -17,7 +17,7 @@ use Rattle.circuit.specs.File.{wiresOf, gatesOf}
 use Rattle.circuit.specs.Working.{walked}
 use Rattle.circuit.proofs.Callers.{GoodFile}
 use Rattle.circuit.proofs.Files.{file-sound}
-use Rattle.running.specs.Run.{stepped, added, endFrom, totalFrom, cnots, score}
+use Rattle.running.specs.Run.{stepped, added, endFrom, totalFrom, cnots, scoreBy, score}
 use Rattle.running.specs.Masks.{Mask, mostMasks, mostWires, ownMasks, masksAfter, masksFrom, met, sumMet}
 use Rattle.running.specs.Groups.{groupTotal, totalsOf, masksOf}
 use Rattle.running.specs.Working.{runStep, countStep, addMet, sumStep}
@@ -32,7 +32,7 @@ run-walked (g ∷ gs) s p h =
     ∙ ap (λ (n : ℕ). (endFrom gs (stepped g s), n)) (let e : ((p + added g s) % 65536 + totalFrom gs (stepped g s)) % 65536 ≡ (p + (added g s + totalFrom gs (stepped g s))) % 65536 = omega arith in e)
 
 pub count-walked : (gs : List Gate) (c s : ℕ) → walked countStep gs (c, s) ≡ (c + cnots gs, s + score gs)
-unfolding walked cnots score
+unfolding walked cnots scoreBy
 count-walked [] c s = ap₂ (λ (m n : ℕ). (m, n)) (sym (add-zero c)) (sym (add-zero s))
 count-walked (g ∷ gs) c s =
     count-walked gs (c + cnots (g ∷ [])) (s + score (g ∷ []))

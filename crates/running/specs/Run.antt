@@ -64,15 +64,23 @@ phases [] = 0
 phases (Cnot c t ∷ gs) = phases gs
 phases (Phase i a ∷ gs) = 1 + phases gs
 
--- 1 for an angle that scores: "whose angle isn't 0"
-abbrev pub scores : ℕ → ℕ
-scores a = indicator (not (eqb a 0))
+-- 02 §2, "Quarter and half turns cost nothing": the free angles are the multiples of this one
+abbrev pub freeTurn : ℕ
+freeTurn = 16384
 
--- "The score is the number of phase gates whose angle isn't 0."
-unfoldable pub score : List Gate → ℕ
-score [] = 0
-score (Cnot c t ∷ gs) = score gs
-score (Phase i a ∷ gs) = scores a + score gs
+-- 1 for an angle that "isn't a multiple of" d
+abbrev pub scores : ℕ → ℕ → ℕ
+scores d a = indicator (not (eqb (a % d) 0))
+
+-- "the number of phase gates whose angle isn't a multiple of" d
+unfoldable pub scoreBy : ℕ → List Gate → ℕ
+scoreBy d [] = 0
+scoreBy d (Cnot c t ∷ gs) = scoreBy d gs
+scoreBy d (Phase i a ∷ gs) = scores d a + scoreBy d gs
+
+-- "The score becomes the number of phase gates whose angle isn't a multiple of 16,384."
+abbrev pub score : List Gate → ℕ
+score gs = scoreBy freeTurn gs
 
 abbrev pub countedSays : Counted → Said
 countedSays (Gates c p s) = values (c ∷ p ∷ s ∷ [])

@@ -8,13 +8,16 @@ ghost use mathlib.Core.List.{[], _∷_};
 ghost use Rattle.refusal.specs.Checks.{outcome, passed};
 ghost use Rattle.running.specs.declared.Counted.the-variants.{Gates};
 ghost use Rattle.circuit.specs.File.{countOf, gatesOf, fileChecks};
-ghost use Rattle.running.specs.Run.{scores, cnots, phases, score, Counts};
+ghost use Rattle.running.specs.Run.{freeTurn, scores, cnots, phases, score, Counts};
+
+// Multiples of this angle are free: quarter and half turns.
+const FREE_TURN: u16 = 16384;
 
 // 1 where a phase gate of that angle scores.
 pub fn scored(angle: u16) -> u16
-    ensures { λ r. ⌜ r ≡ scores angle ⌝ }
+    ensures { λ r. ⌜ r ≡ scores freeTurn angle ⌝ }
 {
-    if angle == 0 { 0 } else { 1 }
+    if angle % FREE_TURN == 0 { 0 } else { 1 }
 }
 
 // A gate's own count of CNOTs, and its own score.

@@ -7,10 +7,10 @@ use mathlib.Core.List.{List}
 use lib.Dec.{eqb}
 use lib.ListN.{length, getD}
 use borrow.Author.Needs.{needs}
-use Rattle.running.specs.Run.{scores}
+use Rattle.running.specs.Run.{freeTurn, scores}
+use Rattle.running.proofs.Counts.{at-most-one, scores-at-most-one}
 use Rattle.numbers.specs.Sums.{sum}
 use Rattle.fold.specs.Working.{staying}
-use Rattle.fold.proofs.Scores.{at-most-one}
 use Rattle.fold.proofs.totals.tally_of.Statement.{statement}
 use Rattle.fold.proofs.totals.tally_of.Tie as tie
 
@@ -19,7 +19,7 @@ abbrev over : (ℕ → ℕ) → List ℕ → ℕ → ℕ
 over h ts m = sum m (λ k. h (getD ts k 0))
 
 abbrev Inv-loop : tie.InvT-loop
-Inv-loop totals kept₀ score₀ m₀ kept score m = (m ≤ length totals) × ((kept ≤ m) × (score ≤ m)) × ((kept ≡ over staying totals m) × (score ≡ over scores totals m))
+Inv-loop totals kept₀ score₀ m₀ kept score m = (m ≤ length totals) × ((kept ≤ m) × (score ≤ m)) × ((kept ≡ over staying totals m) × (score ≡ over (scores freeTurn) totals m))
 
 abbrev μ-loop : tie.MeasureT-loop
 μ-loop totals kept₀ score₀ m₀ kept score m = length totals - m
@@ -34,7 +34,7 @@ one-stays : (c : tie.After-stays Inv-loop μ-loop) → c .stays .result ≤ 1
 one-stays c = omega (arith, c .stays .ensures, at-most-one (not (eqb (getD (start (loop c) .args .totals .now) (loop c .loop .m) 0) 0)))
 
 one-scores : (c : tie.After-scored Inv-loop μ-loop) → c .scored .result ≤ 1
-one-scores c = let at = loop (c .before) in omega (arith, c .scored .ensures, at-most-one (not (eqb (getD (start at .args .totals .now) (at .loop .m) 0) 0)))
+one-scores c = let at = loop (c .before) in omega (arith, c .scored .ensures, scores-at-most-one freeTurn (getD (start at .args .totals .now) (at .loop .m) 0))
 
 loop-holds : tie.Need-loop-holds Inv-loop μ-loop
 loop-holds c = (omega arith, (omega arith, omega arith), (refl, refl))
@@ -70,7 +70,7 @@ loop-again c =
     let next = ap (λ (n : ℕ). over staying ts n) (sym (add-one (at .loop .m))) in (
       omega arith,
       (omega (arith, at .loop .inv .1 .0, one-stays (c .before)), omega (arith, at .loop .inv .1 .1, one-scores c)),
-      (ap₂ _+_ (at .loop .inv .2 .0) (c .before .stays .ensures) ∙ next, ap₂ _+_ (at .loop .inv .2 .1) (c .scored .ensures) ∙ ap (λ (n : ℕ). over scores ts n) (sym (add-one (at .loop .m)))),
+      (ap₂ _+_ (at .loop .inv .2 .0) (c .before .stays .ensures) ∙ next, ap₂ _+_ (at .loop .inv .2 .1) (c .scored .ensures) ∙ ap (λ (n : ℕ). over (scores freeTurn) ts n) (sym (add-one (at .loop .m)))),
     )
 
 returns : tie.Need-returns Inv-loop μ-loop
@@ -78,7 +78,7 @@ returns c =
     let at = c .before in
     let ts = start at .args .totals .now in
     let e : at .loop .m ≡ length ts = omega arith in
-    (at .loop .inv .2 .0 ∙ ap (λ (n : ℕ). over staying ts n) e, at .loop .inv .2 .1 ∙ ap (λ (n : ℕ). over scores ts n) e)
+    (at .loop .inv .2 .0 ∙ ap (λ (n : ℕ). over staying ts n) e, at .loop .inv .2 .1 ∙ ap (λ (n : ℕ). over (scores freeTurn) ts n) e)
 
 pub tally-of-spec : {M : Type 1} → statement M
 tally-of-spec =

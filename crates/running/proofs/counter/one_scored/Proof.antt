@@ -1,6 +1,6 @@
 use native.Mathlib.Nat.{add-zero}
 use mathlib.Core.Path.{sym, _∙_}
-use Rattle.running.specs.Run.{scores, score}
+use Rattle.running.specs.Run.{freeTurn, scores, scoreBy}
 use borrow.Author.Needs.{needs}
 use Rattle.running.proofs.counter.one_scored.Statement.{statement}
 use Rattle.running.proofs.counter.one_scored.Tie as tie
@@ -15,12 +15,12 @@ scored-requires : tie.Need-scored-requires
 scored-requires c κs = search needs
 
 returns : tie.Need-returns
-unfolding score
+unfolding scoreBy
 returns c = rw (c .enum-told .given .1)
 
 returns-2 : tie.Need-returns-2
-unfolding score
-returns-2 c = rw (c .before .before .gate .given .1) (c .scored .ensures ∙ sym (add-zero (scores (c .before .before .gate .given .0 .1 .0))))
+unfolding scoreBy
+returns-2 c = rw (c .before .before .gate .given .1) (c .scored .ensures ∙ sym (add-zero (scores freeTurn (c .before .before .gate .given .0 .1 .0))))
 
 pub one-scored-spec : {M : Type 1} → statement M
 one-scored-spec = tie.close (tie.spec enum-told enum-known-gate scored-requires returns returns-2)
