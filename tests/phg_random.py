@@ -178,7 +178,7 @@ def random_gates(rng, w, number):
         if w > 1 and rng.random() < 0.5:
             gates.append(Cnot(*rng.sample(range(w), 2)))
         else:
-            angle = rng.choice([0, 1, 16384, 32768, 65535, rng.randrange(65536)])
+            angle = rng.choice([0, 1, 8192, 16384, 32768, 49152, 65535, rng.randrange(65536)])
             gates.append(Phase(rng.randrange(w), angle))
     return gates
 
@@ -413,6 +413,8 @@ def samples():
         "kind": header + b"\1" + no_kind,
         "wire": header + b"\2" + b"\1\2\2\5" + no_kind,
         "spare": header + b"\1" + spare,
+        "turns": oracle.encode(2, [Phase(0, 16384), Phase(1, 8192), Cnot(0, 1), Phase(1, 32768), Cnot(0, 1),
+                                   Phase(1, 8192)]),
         "majority": bytes.fromhex("e8"),
     }
 
@@ -437,6 +439,9 @@ list --wrapped parities
 list --wrapped parities text
 fold parities parities
 read parities
+count turns
+fold turns turned
+count turned
 spectrum 9 08
 spectrum 300 08
 build 4 08 never
