@@ -73,7 +73,8 @@ static inline __attribute__((always_inline)) int file_refused(const u8 *f, size_
         u32 x = load32(g + 4 * i);
         bad |= is_bad(x, w);
         cnots += x & 1;
-        score += (u32)((x & 1) == 0) & (u32)(x >> 16 != 0);
+        /* the angle's low byte is the highest here; bits 14 and 15 of the angle are free */
+        score += (u32)((x & 1) == 0) & (u32)((x & 0xff3f0000u) != 0);
     }
     if (bad) {
         u32 i = 0;
@@ -198,9 +199,11 @@ void plain_fold(const u8 *f, size_t len, u8 *out, size_t out_len, u64 *r) {
             met[i] = m;
         }
     }
-    u32 after = 0;
-    for (u32 m = 0; m < size; m++) after += totals[m] != 0;
-    u32 kept = info.cnots + after;
+    u32 kept = info.cnots, after = 0;
+    for (u32 m = 0; m < size; m++) {
+        kept += totals[m] != 0;
+        after += totals[m] % 16384 != 0;
+    }
     size_t length = 8 + 4 * (size_t)kept;
     if (out_len < length) {
         say(r, PHG_ROOM, 0, 0, 0, 0, 0);

@@ -80,14 +80,15 @@ void phg_read(const uint8_t *file, size_t file_len, uint64_t answer[6]);
 /* A run from one starting state. answer[1]: end state, [2]: phase. Refusals: FILE, STATE. */
 void phg_run(const uint8_t *file, size_t file_len, uint16_t start, uint64_t answer[6]);
 
-/* A count. answer[1]: CNOTs, [2]: phase gates, [3]: score (phase gates whose angle is not 0). Refusals: FILE. */
+/* A count. answer[1]: CNOTs, [2]: phase gates, [3]: score (phase gates whose angle is no multiple of
+ * 16384; quarter and half turns are free). Refusals: FILE. */
 void phg_count(const uint8_t *file, size_t file_len, uint64_t answer[6]);
 
 /* The table's circuit file to the front of out. answer[1]: its length, 2^(n + 4). Refusals: TABLE, ROOM. */
 void phg_build(uint8_t n, const uint8_t *table, size_t table_len, uint8_t *out, size_t out_len, uint64_t answer[6]);
 
-/* The folded file to the front of out. answer[1]: its length, at most file_len, [2]: score before, [3]: score after.
- * Refusals: FILE, ROOM. */
+/* The folded file to the front of out. answer[1]: its length, at most file_len, [2]: score before, [3]: score after,
+ * which is never higher. Refusals: FILE, ROOM. */
 void phg_fold(const uint8_t *file, size_t file_len, uint8_t *out, size_t out_len, uint64_t answer[6]);
 
 /* Whether two circuits do the same. answer[1]: 0 same, 1 different; if different [2]: lowest differing state, [3] and

@@ -136,16 +136,16 @@ JudgesFirst k input answer after = answer ≡ Found (verdictAmong k (circuit (ga
 abbrev pub AlwaysScores : ℕ → List ℕ → Counted → List ℕ → Type 0
 AlwaysScores s input answer after = (c : ℕ) × (p : ℕ) × (answer ≡ Gates c p s)
 
--- 02 §2, "isn't a multiple of 16,384": the multiples of another number are free
-abbrev pub ScoresBy : ℕ → List ℕ → Counted → List ℕ → Type 0
-ScoresBy d input answer after = (c : ℕ) × (p : ℕ) × (answer ≡ Gates c p (scoreBy d (gatesOf input)))
-
 -- the same of folding's two scores
 abbrev pub AlwaysScoresBefore : ℕ → List ℕ × List ℕ → Folded → List ℕ → Type 0
 AlwaysScoresBefore s input answer after = (l : ℕ) × (b : ℕ) × (answer ≡ File l s b)
 
 abbrev pub AlwaysScoresAfter : ℕ → List ℕ × List ℕ → Folded → List ℕ → Type 0
 AlwaysScoresAfter s input answer after = (l : ℕ) × (b : ℕ) × (answer ≡ File l b s)
+
+-- 02 §2, "isn't a multiple of 16,384": the multiples of another number are free
+abbrev pub ScoresBy : ℕ → List ℕ → Counted → List ℕ → Type 0
+ScoresBy d input answer after = (c : ℕ) × (p : ℕ) × (answer ≡ Gates c p (scoreBy d (gatesOf input)))
 
 -- 02 §4, "Refusal 10 hands the reason on": one that is the same for every bad gate is not handed on, 0 among them
 abbrev pub AlwaysReasons : ℕ → List ℕ → Reading → List ℕ → Type 0
