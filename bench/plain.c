@@ -73,7 +73,7 @@ static inline __attribute__((always_inline)) int file_refused(const u8 *f, size_
         u32 x = load32(g + 4 * i);
         bad |= is_bad(x, w);
         cnots += x & 1;
-        /* the angle's low byte is the highest here; bits 14 and 15 of the angle are free */
+        /* the angle's low byte is the highest here; its bits 14 and 15 do not score */
         score += (u32)((x & 1) == 0) & (u32)((x & 0xff3f0000u) != 0);
     }
     if (bad) {

@@ -220,7 +220,7 @@ def masks_met(w, gates):
     return met
 
 
-# 02 §2: no turn, and quarter and half turns
+# 02 §2: no turn, a quarter, a half, three quarters
 FREE_ANGLES = 0, 16384, 32768, 49152
 
 

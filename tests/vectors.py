@@ -629,9 +629,9 @@ def scores_section(rng):
         assert oracle.score([Phase(0, angle)]) == score, angle
         yield from count_and_fold(f"angle {angle}: score {score}", 1, [Phase(0, angle)])
     for free in (16384, 32768, 49152, 65536):
-        near = [Phase(0, (free - 1024 + step) % 65536) for step in range(2048)]
-        assert oracle.score(near) == 2047
-        yield count(f"every angle around {free}: score 2,047", encode(1, near))
+        around = [Phase(0, (free - 1024 + step) % 65536) for step in range(2048)]
+        assert oracle.score(around) == 2047
+        yield count(f"2,048 angles around {free % 65536}: score 2,047", encode(1, around))
     for angles, before, after in SCORED_GROUPS:
         note = f"{angles}: score {before} to {after}"
         for w, gates in ((1, [Phase(0, angle) for angle in angles]), (2, one_group(angles))):

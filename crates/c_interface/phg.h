@@ -80,8 +80,8 @@ void phg_read(const uint8_t *file, size_t file_len, uint64_t answer[6]);
 /* A run from one starting state. answer[1]: end state, [2]: phase. Refusals: FILE, STATE. */
 void phg_run(const uint8_t *file, size_t file_len, uint16_t start, uint64_t answer[6]);
 
-/* A count. answer[1]: CNOTs, [2]: phase gates, [3]: score (phase gates whose angle is no multiple of
- * 16384; quarter and half turns are free). Refusals: FILE. */
+/* A count. answer[1]: CNOTs, [2]: phase gates, [3]: score: the phase gates whose angle is no multiple of 16,384, since
+ * quarter and half turns are free. Refusals: FILE. */
 void phg_count(const uint8_t *file, size_t file_len, uint64_t answer[6]);
 
 /* The table's circuit file to the front of out. answer[1]: its length, 2^(n + 4). Refusals: TABLE, ROOM. */

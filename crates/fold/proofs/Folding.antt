@@ -15,7 +15,7 @@ use Rattle.circuit.specs.Working.{AllSound}
 use Rattle.running.specs.Run.{stepped, endFrom, totalFrom, phaseFrom, cnots}
 use Rattle.running.specs.Masks.{ownMasks, masksAfter, masksFrom, sumMet}
 use Rattle.running.proofs.Masks.{own-below, total-parity}
-use Rattle.running.proofs.Groups.{collect, sum-divides}
+use Rattle.running.proofs.Groups.{collect, divides-sum}
 use Rattle.running.specs.Groups.{groupTotal}
 use Rattle.fold.specs.Working.{cnotsOf}
 use Rattle.fold.specs.Fold.{folded}
@@ -67,7 +67,7 @@ module _ (w : ℕ) (gs : List Gate) where
 
   -- a mask that no phase gate meets has total 0
   unmet : (m : ℕ) → sumMet (λ k a. equal k m) gs (ownMasks w) ≡ 0 → groupTotal w gs m ≡ 0
-  unmet m e = mod-eq-zero-of-dvd 65536 (sum-divides 65536 (λ k a. equal k m) (λ k a. a * equal k m) (λ k a d. rw d (dvd-mul-left-of-dvd 65536 (dvd-zero 65536) a)) gs (ownMasks w) e)
+  unmet m e = mod-eq-zero-of-dvd 65536 (divides-sum 65536 (λ k a. equal k m) (λ k a. a * equal k m) (λ k a d. rw d (dvd-mul-left-of-dvd 65536 (dvd-zero 65536) a)) gs (ownMasks w) e)
 
   -- whatever counts by the angle, and counts 0 as nothing, counts of a group what it counts of the total
   pub group-folded : (h : ℕ → ℕ) → h 0 ≡ 0 → (m : ℕ) → sumMet (λ k a. h a * equal k m) (folded w gs) (ownMasks w) ≡ h (groupTotal w gs m)

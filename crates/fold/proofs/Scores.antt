@@ -1,4 +1,4 @@
--- How many gates the folded list has and what they score, by the groups' totals; the score never rises.
+-- How many gates the folded list has and what they score, by the groups' totals; no score by a divisor of a full turn rises.
 use Prim.Native.Nat.{ℕ, zero, suc, _+_, _*_, _^_, _≤_, _∣_}
 use native.Mathlib.Nat.{mul-one, le-trans, dvd-zero, dvd-mul-left-of-dvd, dvd-mul-right-of-dvd, dvd-mod-iff, dvd-of-mod-eq-zero}
 use native.Mathlib.Omega.{arith}
@@ -16,7 +16,7 @@ use Rattle.circuit.specs.declared.Gate.{Gate}
 use Rattle.running.specs.Run.{freeTurn, scores, scoreBy, cnots, score}
 use Rattle.running.specs.Masks.{ownMasks, sumMet}
 use Rattle.running.proofs.Masks.{own-below}
-use Rattle.running.proofs.Groups.{collect, sum-divides, score-met}
+use Rattle.running.proofs.Groups.{collect, divides-sum, score-met}
 use Rattle.running.proofs.Counts.{scores-at-most-one, multiple-is-free, free-is-multiple}
 use Rattle.running.specs.Groups.{groupTotal}
 use Rattle.fold.specs.Fold.{folded}
@@ -25,7 +25,7 @@ use Rattle.fold.proofs.Remaining.{counts-remain}
 use Rattle.fold.proofs.Positions.{folded-remains}
 use Rattle.fold.proofs.Folding.{group-folded}
 
--- an angle that counts for its group and does not score is a multiple, and so is one that does not count
+-- what an angle that does not score adds to its group is a multiple, and so is the 0 of another group's angle
 unscored : (d a : ℕ) (b : Bool) → scores d a * indicator b ≡ 0 → d ∣ a * indicator b
 unscored d a true e = dvd-mul-right-of-dvd d (free-is-multiple d a (omega arith)) 1
 unscored d a false e = dvd-mul-left-of-dvd d (dvd-zero d) a
@@ -49,9 +49,9 @@ module _ (w : ℕ) (gs : List Gate) where
   -- whatever divides a full turn divides a group's total if it divides each of its angles
   module _ (d : ℕ) (turn : d ∣ 65536) where
     pub free-total : (m : ℕ) → sumMet (λ k a. scores d a * equal k m) gs (ownMasks w) ≡ 0 → d ∣ groupTotal w gs m
-    free-total m e = dvd-mod-iff d turn .1 (sum-divides d (λ k a. scores d a * equal k m) (λ k a. a * equal k m) (λ k a. unscored d a (eqb k m)) gs (ownMasks w) e)
+    free-total m e = dvd-mod-iff d turn .1 (divides-sum d (λ k a. scores d a * equal k m) (λ k a. a * equal k m) (λ k a. unscored d a (eqb k m)) gs (ownMasks w) e)
 
-    -- so a total that scores has a member that scores
+    -- a total that scores has a member that scores
     pub scored-member : (m : ℕ) → scores d (groupTotal w gs m) ≤ sumMet (λ k a. scores d a * equal k m) gs (ownMasks w)
     scored-member m = by (sumMet (λ k a. scores d a * equal k m) gs (ownMasks w)) refl
       where
@@ -59,14 +59,15 @@ module _ (w : ℕ) (gs : List Gate) where
         by zero e = omega (arith, multiple-is-free d (groupTotal w gs m) (free-total m e))
         by (suc n) e = omega (arith, scores-at-most-one d (groupTotal w gs m))
 
-    pub score-falls-by : scoreBy d (folded w gs) ≤ scoreBy d gs
-    score-falls-by =
+    -- so no score rises, mask by mask
+    pub any-score-falls : scoreBy d (folded w gs) ≤ scoreBy d gs
+    any-score-falls =
         rw (score-of-totals d w (omega arith), score-met d gs (ownMasks w), by-masks (scores d) w (omega arith) gs)
         (sum-≤ (2 ^ w) (λ m. scores d (groupTotal w gs m)) (λ m. sumMet (λ k a. scores d a * equal k m) gs (ownMasks w) * 1) (λ m l. omega (arith, scored-member m)))
 
   -- 02 §2, "folding never raises the new score"
   pub score-falls : score (folded w gs) ≤ score gs
-  score-falls = score-falls-by freeTurn (dvd-of-mod-eq-zero freeTurn refl)
+  score-falls = any-score-falls freeTurn (dvd-of-mod-eq-zero freeTurn refl)
 
   -- what stays are the CNOTs, and a gate for each total that is not 0
   pub length-folded : (v : ℕ) → w ≤ v → length (folded w gs) ≡ cnots gs + sum (2 ^ v) (λ m. staying (groupTotal w gs m))

@@ -1,7 +1,8 @@
 -- k.x and sets of wires, bit by bit and block by block.
-use Prim.Native.Nat.{ℕ, zero, suc, _+_, _*_, _/_, _%_, _^_, _<_, min}
+use Prim.Native.Nat.{ℕ, zero, suc, _+_, _*_, _/_, _%_, _^_, _<_, _≤_, min}
 use native.Mathlib.Nat.{add-mod, add-mod-mod}
 use native.Mathlib.Omega.{arith}
+use mathlib.Core.Bool.{Bool, true, false}
 use mathlib.Core.Path.{_≡_, refl, sym, ap, ap₂, _∙_}
 use lib.Bits.{bitAnd, and-step, and-block, and-comm, and-lt}
 use lib.Count.{ones, onesIn, ones-step, ones-cat}
@@ -67,6 +68,10 @@ dot-step k x =
     let high : (q * 2 + m) / 2 ≡ q = omega arith in
     ap (λ (n : ℕ). ones n % 2) (and-step k x) ∙ ap (_% 2) (ones-step (q * 2 + m) ∙ ap₂ (λ (y z : ℕ). y + ones z) low high)
     ∙ ap (λ (n : ℕ). (n + ones q) % 2) e ∙ sym (add-mod-mod (k % 2 * (x % 2)) (ones q) 2)
+
+pub indicator-at-most-one : (b : Bool) → indicator b ≤ 1
+indicator-at-most-one true = omega arith
+indicator-at-most-one false = omega arith
 
 pub equal-yes : {a b : ℕ} → a ≡ b → equal a b ≡ 1
 equal-yes {a} {b} p = ap indicator (eq-eqb a b p)

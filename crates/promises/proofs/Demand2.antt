@@ -1,5 +1,5 @@
 -- The second demand: "The spectrum, the circuit built from it, the folded circuit and the end state and phase of a run equal the published construction and rules condensed in document 01,
--- gate for gate and angle for angle." Where a call's checks pass, what is answered and what the lent slice then holds.
+-- gate for gate and angle for angle." Where a call's checks pass, what is answered and what the lent slice then holds. Beside it 02 §2 on folding's two scores.
 use Prim.Native.Nat.{ℕ, _+_, _-_, _^_, _<_, _≤_}
 use native.Mathlib.Omega.{arith}
 use mathlib.Core.Path.{_≡_, refl, ap, _∙_}

@@ -247,31 +247,31 @@ invented-score-after =
     (λ s a x m e. let q : File (e .0) (e .1) s ≡ File 12 1 1 = sym (e .2) ∙ one-fold one-phase (replicate 12 0) a _ x _ m one-folded .0 in cc)
     (λ s a x m e. let q : File (e .0) (e .1) s ≡ File 8 0 0 = sym (e .2) ∙ one-fold empty (replicate 8 0) a _ x _ m none-folded .0 in cc)
 
--- ---- another price
+-- ---- another free turn
 
 -- one phase gate of an angle
 alone : ℕ → List ℕ
 alone a = fileOf 1 (Phase 0 a ∷ [])
 
--- a score by d is the contract's only where both have the angle free, or neither
-same-price : (d a : ℕ) → a < 65536 → (r : Counted) (x : List ℕ) → ScoresBy d (alone a) r x → Counts (alone a) r → scores d a ≡ scores freeTurn a
+-- a score by d meets the contract only where both numbers have the angle free, or neither
+scored-alike : (d a : ℕ) → a < 65536 → (r : Counted) (x : List ℕ) → ScoresBy d (alone a) r x → Counts (alone a) r → scores d a ≡ scores freeTurn a
 unfolding alone AllSound scoreBy
-same-price d a l r x e m =
+scored-alike d a l r x e m =
     let g : gatesOf (fileOf 1 (Phase 0 a ∷ [])) ≡ Phase 0 a ∷ [] = list-written 1 (Phase 0 a ∷ []) ((omega arith, l), tt) in
     let k = rw g at (count-answers (alone a) r m (e .0) (e .1) (scoreBy d (gatesOf (alone a))) (e .2) .has-score) in
     omega arith
 
-pub another-price : (d : ℕ) → ¬ (d ≡ freeTurn) → Unacceptable counting (ScoresBy d)
-another-price d other = by (decDvd d freeTurn)
+pub another-free-turn : (d : ℕ) → ¬ (d ≡ freeTurn) → Unacceptable counting (ScoresBy d)
+another-free-turn d other = by (decDvd d freeTurn)
   where
     by : Dec (d ∣ freeTurn) → Unacceptable counting (ScoresBy d)
     by (yes h) = record {
       input = alone d;
-      fails = λ r x e m. other (dvd-antisymm h (free-is-multiple freeTurn d (sym (same-price d d (omega (arith, le-of-dvd {m = d} {n = freeTurn} (omega arith) h)) r x e m) ∙ multiple-is-free d d (dvd-refl d))));
+      fails = λ r x e m. other (dvd-antisymm h (free-is-multiple freeTurn d (sym (scored-alike d d (omega (arith, le-of-dvd {m = d} {n = freeTurn} (omega arith) h)) r x e m) ∙ multiple-is-free d d (dvd-refl d))));
     }
     by (no n) = record {
       input = alone freeTurn;
-      fails = λ r x e m. n (free-is-multiple d freeTurn (same-price d freeTurn (omega arith) r x e m ∙ multiple-is-free freeTurn freeTurn (dvd-refl freeTurn)));
+      fails = λ r x e m. n (free-is-multiple d freeTurn (scored-alike d freeTurn (omega arith) r x e m ∙ multiple-is-free freeTurn freeTurn (dvd-refl freeTurn)));
     }
 
 -- ---- an invented reason

@@ -1,4 +1,5 @@
--- 01, "Cases on each side": the cases marked (p) and the built file of two variables, and what "Listing" says of the program's inputs. Each lends a slice that is just as long as the result.
+-- 01, "Cases on each side": the cases marked (p), the built file of two variables, two on what folding keeps, and what "Listing" says of the program's inputs.
+-- Each lends a slice that is just as long as the result.
 -- The scores are by 02 §2: "01's built files fall from 3 to 0 and from 8 to 7."
 use Prim.Native.Nat.{ℕ}
 use mathlib.Core.List.{List, [], _∷_}
@@ -58,11 +59,12 @@ builtHere =
     0x50 ∷ 0x48 ∷ 0x47 ∷ 0x00 ∷ 0x01 ∷ 0x02 ∷ 0x00 ∷ 0x06 ∷ 0x02 ∷ 0x01 ∷ 0x40 ∷ 0x00 ∷ 0x02 ∷ 0x00 ∷ 0x40 ∷ 0x00 ∷ 0x02 ∷ 0x01 ∷ 0x00 ∷ 0x00 ∷ 0x01 ∷ 0x00
     ∷ 0x01 ∷ 0x00 ∷ 0x02 ∷ 0x01 ∷ 0xC0 ∷ 0x00 ∷ 0x01 ∷ 0x00 ∷ 0x01 ∷ 0x00 ∷ []
 
--- "For n 2, byte 08: 14 gates, folding to 13, ..; its first gate becomes phase 8,192 on wire 2."
+-- "For n 2, byte 08: 14 gates, .."
 abbrev pub builtOfTwo : List ℕ
 builtOfTwo =
     fileOf 3 (Phase 2 16384 ∷ Phase 0 8192 ∷ Phase 1 8192 ∷ Cnot 0 1 ∷ Phase 1 57344 ∷ Cnot 0 1 ∷ Phase 2 57344 ∷ Cnot 0 2 ∷ Phase 2 57344 ∷ Cnot 1 2 ∷ Phase 2 8192 ∷ Cnot 0 2 ∷ Phase 2 57344 ∷ Cnot 1 2 ∷ [])
 
+-- ".. folding to 13 ..; its first gate becomes phase 8,192 on wire 2"
 abbrev pub foldedOfTwo : List ℕ
 foldedOfTwo = fileOf 3 (Phase 2 8192 ∷ Phase 0 8192 ∷ Phase 1 8192 ∷ Cnot 0 1 ∷ Phase 1 57344 ∷ Cnot 0 1 ∷ Cnot 0 2 ∷ Phase 2 57344 ∷ Cnot 1 2 ∷ Phase 2 8192 ∷ Cnot 0 2 ∷ Phase 2 57344 ∷ Cnot 1 2 ∷ [])
 

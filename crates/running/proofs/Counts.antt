@@ -1,15 +1,16 @@
--- The counts, gate by gate.
+-- What an angle scores, and the counts, gate by gate.
 use Prim.Native.Nat.{ℕ, _+_, _%_, _≤_, _∣_}
 use native.Mathlib.Nat.{zero-add, add-zero, mod-eq-zero-of-dvd, dvd-of-mod-eq-zero}
 use native.Mathlib.Decide.{ℕ-discrete}
 use native.Mathlib.Omega.{arith}
-use mathlib.Core.Bool.{Bool, true, false, not}
+use mathlib.Core.Bool.{not}
 use mathlib.Core.Path.{_≡_, refl, sym, ap}
 use mathlib.Core.List.{List, [], _∷_}
 use lib.Dec.{eqb}
 use lib.ListN.{length}
 use borrow.Author.Tests.{eq-eqb, ne-eqb}
 use Rattle.numbers.specs.Bits.{indicator}
+use Rattle.numbers.proofs.Parity.{indicator-at-most-one}
 use Rattle.circuit.specs.declared.Gate.{Gate}
 use Rattle.circuit.specs.declared.Gate.the-variants.{Cnot, Phase}
 use Rattle.refusal.specs.Checks.{passed, outcome}
@@ -29,14 +30,10 @@ unfolding scoreBy
 score-cons (Cnot c t) gs = sym (zero-add (score gs))
 score-cons (Phase i a) gs = ap (_+ score gs) (sym (add-zero (scores freeTurn a)))
 
-pub at-most-one : (b : Bool) → indicator b ≤ 1
-at-most-one true = omega arith
-at-most-one false = omega arith
-
 -- an angle scores 0 or 1, and 0 exactly where it is a multiple
 module _ (d a : ℕ) where
   pub scores-at-most-one : scores d a ≤ 1
-  scores-at-most-one = at-most-one (not (eqb (a % d) 0))
+  scores-at-most-one = indicator-at-most-one (not (eqb (a % d) 0))
 
   pub scores-nothing : a % d ≡ 0 → scores d a ≡ 0
   scores-nothing e = ap (λ b. indicator (not b)) (eq-eqb (a % d) 0 e)

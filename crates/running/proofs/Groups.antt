@@ -42,17 +42,17 @@ module _ (h p : ℕ → ℕ) (v : ℕ) where
       ∙ sumOf-ext 0 _+_ (2 ^ v) (λ m. metBy (λ k a. h a * equal k m) (met g ms) * p m + sumMet (λ k a. h a * equal k m) gs (masksAfter g ms) * p m) (λ m. sumMet (λ k a. h a * equal k m) (g ∷ gs) ms * p m)
       (λ m l. sym (ap (_* p m) (sum-cons (λ k a. h a * equal k m) g gs ms) ∙ add-mul (metBy (λ k a. h a * equal k m) (met g ms)) (sumMet (λ k a. h a * equal k m) gs (masksAfter g ms)) (p m)))
 
--- where one sum is 0, what divides each term of another whose own term is 0 divides the other sum
+-- if d divides g's term wherever f's is 0, then d divides g's sum where f's is 0
 module _ (d : ℕ) (f g : ℕ → ℕ → ℕ) (h : (k a : ℕ) → f k a ≡ 0 → d ∣ g k a) where
-  term-divides : (x : Met) → metBy f x ≡ 0 → d ∣ metBy g x
-  term-divides Mixed e = dvd-zero d
-  term-divides (Mask k a) e = h k a e
+  divides-term : (x : Met) → metBy f x ≡ 0 → d ∣ metBy g x
+  divides-term Mixed e = dvd-zero d
+  divides-term (Mask k a) e = h k a e
 
-  pub sum-divides : (gs : List Gate) (ms : List ℕ) → sumMet f gs ms ≡ 0 → d ∣ sumMet g gs ms
-  sum-divides [] ms e = rw (sum-none g ms) (dvd-zero d)
-  sum-divides (x ∷ gs) ms e =
+  pub divides-sum : (gs : List Gate) (ms : List ℕ) → sumMet f gs ms ≡ 0 → d ∣ sumMet g gs ms
+  divides-sum [] ms e = rw (sum-none g ms) (dvd-zero d)
+  divides-sum (x ∷ gs) ms e =
       let c = sum-cons f x gs ms in
-      rw (sum-cons g x gs ms) (dvd-add d (term-divides (met x ms) (omega arith)) (sum-divides gs (masksAfter x ms) (omega arith)))
+      rw (sum-cons g x gs ms) (dvd-add d (divides-term (met x ms) (omega arith)) (divides-sum gs (masksAfter x ms) (omega arith)))
 
 -- the score as such a sum, whatever the masks
 pub score-met : (d : ℕ) (gs : List Gate) (ms : List ℕ) → scoreBy d gs ≡ sumMet (λ k a. scores d a * 1) gs ms

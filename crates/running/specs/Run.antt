@@ -1,4 +1,4 @@
--- 01, "Running, counting": a run as a recursion over the gates, and the counts.
+-- 01, "Running, counting": a run as a recursion over the gates, and the counts; the score is by 02 §2.
 use Prim.Native.Nat.{ℕ, _+_, _*_, _%_, _^_}
 use mathlib.Core.Bool.{not}
 use mathlib.Core.List.{List, [], _∷_, _++_}
@@ -68,17 +68,17 @@ phases (Phase i a ∷ gs) = 1 + phases gs
 abbrev pub freeTurn : ℕ
 freeTurn = 16384
 
--- 1 for an angle that "isn't a multiple of" d
+-- 02 §2, 1 for an angle that "isn't a multiple of" d
 abbrev pub scores : ℕ → ℕ → ℕ
 scores d a = indicator (not (eqb (a % d) 0))
 
--- "the number of phase gates whose angle isn't a multiple of" d
+-- 02 §2, "the number of phase gates whose angle isn't a multiple of" d
 unfoldable pub scoreBy : ℕ → List Gate → ℕ
 scoreBy d [] = 0
 scoreBy d (Cnot c t ∷ gs) = scoreBy d gs
 scoreBy d (Phase i a ∷ gs) = scores d a + scoreBy d gs
 
--- "The score becomes the number of phase gates whose angle isn't a multiple of 16,384."
+-- 02 §2, "The score becomes the number of phase gates whose angle isn't a multiple of 16,384."
 abbrev pub score : List Gate → ℕ
 score gs = scoreBy freeTurn gs
 

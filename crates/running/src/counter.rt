@@ -10,7 +10,7 @@ ghost use Rattle.running.specs.declared.Counted.the-variants.{Gates};
 ghost use Rattle.circuit.specs.File.{countOf, gatesOf, fileChecks};
 ghost use Rattle.running.specs.Run.{freeTurn, scores, cnots, phases, score, Counts};
 
-// Multiples of this angle are free: quarter and half turns.
+// Multiples of this angle are free (02 §2): quarter and half turns.
 const FREE_TURN: u16 = 16384;
 
 // 1 where a phase gate of that angle scores.

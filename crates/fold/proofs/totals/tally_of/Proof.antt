@@ -8,8 +8,9 @@ use lib.Dec.{eqb}
 use lib.ListN.{length, getD}
 use borrow.Author.Needs.{needs}
 use Rattle.running.specs.Run.{freeTurn, scores}
-use Rattle.running.proofs.Counts.{at-most-one, scores-at-most-one}
+use Rattle.running.proofs.Counts.{scores-at-most-one}
 use Rattle.numbers.specs.Sums.{sum}
+use Rattle.numbers.proofs.Parity.{indicator-at-most-one}
 use Rattle.fold.specs.Working.{staying}
 use Rattle.fold.proofs.totals.tally_of.Statement.{statement}
 use Rattle.fold.proofs.totals.tally_of.Tie as tie
@@ -31,7 +32,7 @@ abbrev start : tie.At-loop Inv-loop μ-loop → tie.Start Inv-loop μ-loop
 start c = c .before .before
 
 one-stays : (c : tie.After-stays Inv-loop μ-loop) → c .stays .result ≤ 1
-one-stays c = omega (arith, c .stays .ensures, at-most-one (not (eqb (getD (start (loop c) .args .totals .now) (loop c .loop .m) 0) 0)))
+one-stays c = omega (arith, c .stays .ensures, indicator-at-most-one (not (eqb (getD (start (loop c) .args .totals .now) (loop c .loop .m) 0) 0)))
 
 one-scores : (c : tie.After-scored Inv-loop μ-loop) → c .scored .result ≤ 1
 one-scores c = let at = loop (c .before) in omega (arith, c .scored .ensures, scores-at-most-one freeTurn (getD (start at .args .totals .now) (at .loop .m) 0))
