@@ -579,89 +579,6 @@ def reasons_section(rng):
         yield gate_at(f"first {length} bytes: no kind", raw(2, ["01010100"])[:length], 0)
 
 
-# Section scores
-
-# Each angle's score as 02 §2 has it, written down by hand
-ANGLE_SCORES = [
-    (0, 0), (1, 1), (65535, 1), (16384, 0), (16383, 1), (16385, 1), (32768, 0), (32767, 1), (32769, 1),
-    (49152, 0), (49151, 1), (49153, 1), (2, 1), (64, 1), (128, 1), (192, 1), (255, 1), (256, 1), (4096, 1), (8192, 1),
-    (16448, 1), (16640, 1), (24576, 1), (40960, 1), (57344, 1), (65280, 1),
-]
-
-# The angles of a group, and the scores before and after folding, by hand
-FREE_TO_FREE = [
-    ([16384, 16384], 0, 0), ([16384, 32768], 0, 0), ([49152, 49152], 0, 0), ([0, 16384], 0, 0), ([32768, 0], 0, 0),
-    ([16384] * 3, 0, 0), ([49152, 0, 32768], 0, 0), ([16384] * 5, 0, 0),
-]
-FREE_TO_NOTHING = [
-    ([0, 0], 0, 0), ([32768, 32768], 0, 0), ([16384, 49152], 0, 0), ([16384] * 4, 0, 0), ([32768, 16384, 16384], 0, 0),
-]
-SCORED_TO_FREE = [
-    ([8192, 8192], 2, 0), ([1, 16383], 2, 0), ([16385, 16383], 2, 0), ([24576, 24576], 2, 0), ([65535, 16385], 2, 0),
-    ([4096] * 4, 4, 0), ([10000, 6384], 2, 0), ([1, 2, 16381], 3, 0), ([57344, 8192, 16384], 2, 0),
-]
-SCORED_TO_NOTHING = [
-    ([1, 65535], 2, 0), ([8192, 57344], 2, 0), ([8192] * 8, 8, 0), ([16383, 49153], 2, 0), ([1, 16383, 49152], 2, 0),
-]
-TO_SCORED = [
-    ([16384, 1], 1, 1), ([65535, 49152], 1, 1), ([16384, 65535], 1, 1), ([1, 16384, 32768], 1, 1), ([1, 1], 2, 1),
-    ([8192, 1], 2, 1), ([8192, 4096], 2, 1), ([16384, 16384, 1], 1, 1), ([0, 1], 1, 1), ([8192] * 3, 3, 1),
-]
-SCORED_GROUPS = FREE_TO_FREE + FREE_TO_NOTHING + SCORED_TO_FREE + SCORED_TO_NOTHING + TO_SCORED
-
-
-def one_group(angles):
-    """The angles at one mask, held by two wires in turn."""
-    gates = []
-    for i, angle in enumerate(angles):
-        gates += SWAP * (i > 0) + [Phase(i % 2, angle)]
-    return gates
-
-
-def count_and_fold(note, w, gates):
-    file = encode(w, gates)
-    yield count(note, file)
-    yield fold(note, file, len(file))
-
-
-def scores_section(rng):
-    for angle, score in ANGLE_SCORES:
-        assert oracle.score([Phase(0, angle)]) == score, angle
-        yield from count_and_fold(f"angle {angle}: score {score}", 1, [Phase(0, angle)])
-    for free in (16384, 32768, 49152, 65536):
-        around = [Phase(0, (free - 1024 + step) % 65536) for step in range(2048)]
-        assert oracle.score(around) == 2047
-        yield count(f"2,048 angles around {free % 65536}: score 2,047", encode(1, around))
-    for angles, before, after in SCORED_GROUPS:
-        note = f"{angles}: score {before} to {after}"
-        for w, gates in ((1, [Phase(0, angle) for angle in angles]), (2, one_group(angles))):
-            assert oracle.fold(encode(w, gates))[1:] == (before, after), note
-            yield from count_and_fold(note, w, gates)
-    for first, before, after in SCORED_GROUPS:
-        second, more_before, more_after = rng.choice(SCORED_GROUPS)
-        apart = [Phase(0, angle) for angle in first] + [Phase(1, angle) for angle in second]
-        rng.shuffle(apart)
-        assert oracle.fold(encode(2, apart))[1:] == (before + more_before, after + more_after), (first, second)
-        yield from count_and_fold(f"{first} and {second}, mixed", 2, apart)
-    near = [angle for angle, score in ANGLE_SCORES[:12]]
-    for first in near:
-        for second in near:
-            yield fold(f"{first} and {second}", encode(1, [Phase(0, first), Phase(0, second)]), 16)
-    for n in range(1, 9):
-        chosen = named_tables(rng, n)
-        for note, table in chosen if n < 6 else rng.sample(chosen, 4):
-            built = oracle.construction(n, table)
-            # a table that is a parity, or its opposite, has one coefficient alone, and that one's angles are free
-            if n == 1 or note in ("never", "always", "parity", "last variable"):
-                assert oracle.score(built) == 0, (n, note)
-            yield from count_and_fold(f"built, n {n}, {note}", n + 1, built)
-    for w in range(1, 6):
-        for unit in (16384, 8192, 4096):
-            gates = [Phase(gate.wire, unit * rng.randrange(65536 // unit)) if isinstance(gate, Phase) else gate
-                     for gate in random_gates(rng, w, 40)]
-            yield from count_and_fold(f"multiples of {unit}, {w} wires", w, gates)
-
-
 # Section build
 
 def build_section(rng):
@@ -764,6 +681,89 @@ def fold_section(rng):
     for note, file in refusal_samples():
         yield fold(note, file, 40)
         yield fold(f"{note}, no room", file, 0)
+
+
+# Section scores
+
+# Each angle's score as 02 §2 has it, written down by hand
+ANGLE_SCORES = [
+    (0, 0), (1, 1), (65535, 1), (16384, 0), (16383, 1), (16385, 1), (32768, 0), (32767, 1), (32769, 1),
+    (49152, 0), (49151, 1), (49153, 1), (2, 1), (64, 1), (128, 1), (192, 1), (255, 1), (256, 1), (4096, 1), (8192, 1),
+    (16448, 1), (16640, 1), (24576, 1), (40960, 1), (57344, 1), (65280, 1),
+]
+
+# The angles of a group, and the scores before and after folding, by hand
+FREE_TO_FREE = [
+    ([16384, 16384], 0, 0), ([16384, 32768], 0, 0), ([49152, 49152], 0, 0), ([0, 16384], 0, 0), ([32768, 0], 0, 0),
+    ([16384] * 3, 0, 0), ([49152, 0, 32768], 0, 0), ([16384] * 5, 0, 0),
+]
+FREE_TO_NOTHING = [
+    ([0, 0], 0, 0), ([32768, 32768], 0, 0), ([16384, 49152], 0, 0), ([16384] * 4, 0, 0), ([32768, 16384, 16384], 0, 0),
+]
+SCORED_TO_FREE = [
+    ([8192, 8192], 2, 0), ([1, 16383], 2, 0), ([16385, 16383], 2, 0), ([24576, 24576], 2, 0), ([65535, 16385], 2, 0),
+    ([4096] * 4, 4, 0), ([10000, 6384], 2, 0), ([1, 2, 16381], 3, 0), ([57344, 8192, 16384], 2, 0),
+]
+SCORED_TO_NOTHING = [
+    ([1, 65535], 2, 0), ([8192, 57344], 2, 0), ([8192] * 8, 8, 0), ([16383, 49153], 2, 0), ([1, 16383, 49152], 2, 0),
+]
+TO_SCORED = [
+    ([16384, 1], 1, 1), ([65535, 49152], 1, 1), ([16384, 65535], 1, 1), ([1, 16384, 32768], 1, 1), ([1, 1], 2, 1),
+    ([8192, 1], 2, 1), ([8192, 4096], 2, 1), ([16384, 16384, 1], 1, 1), ([0, 1], 1, 1), ([8192] * 3, 3, 1),
+]
+SCORED_GROUPS = FREE_TO_FREE + FREE_TO_NOTHING + SCORED_TO_FREE + SCORED_TO_NOTHING + TO_SCORED
+
+
+def one_group(angles):
+    """The angles at one mask, held by two wires in turn."""
+    gates = []
+    for i, angle in enumerate(angles):
+        gates += SWAP * (i > 0) + [Phase(i % 2, angle)]
+    return gates
+
+
+def count_and_fold(note, w, gates):
+    file = encode(w, gates)
+    yield count(note, file)
+    yield fold(note, file, len(file))
+
+
+def scores_section(rng):
+    for angle, score in ANGLE_SCORES:
+        assert oracle.score([Phase(0, angle)]) == score, angle
+        yield from count_and_fold(f"angle {angle}: score {score}", 1, [Phase(0, angle)])
+    for free in (16384, 32768, 49152, 65536):
+        around = [Phase(0, (free - 1024 + step) % 65536) for step in range(2048)]
+        assert oracle.score(around) == 2047
+        yield count(f"2,048 angles around {free % 65536}: score 2,047", encode(1, around))
+    for angles, before, after in SCORED_GROUPS:
+        note = f"{angles}: score {before} to {after}"
+        for w, gates in ((1, [Phase(0, angle) for angle in angles]), (2, one_group(angles))):
+            assert oracle.fold(encode(w, gates))[1:] == (before, after), note
+            yield from count_and_fold(note, w, gates)
+    for first, before, after in SCORED_GROUPS:
+        second, more_before, more_after = rng.choice(SCORED_GROUPS)
+        apart = [Phase(0, angle) for angle in first] + [Phase(1, angle) for angle in second]
+        rng.shuffle(apart)
+        assert oracle.fold(encode(2, apart))[1:] == (before + more_before, after + more_after), (first, second)
+        yield from count_and_fold(f"{first} and {second}, mixed", 2, apart)
+    near = [angle for angle, score in ANGLE_SCORES[:12]]
+    for first in near:
+        for second in near:
+            yield fold(f"{first} and {second}", encode(1, [Phase(0, first), Phase(0, second)]), 16)
+    for n in range(1, 9):
+        chosen = named_tables(rng, n)
+        for note, table in chosen if n < 6 else rng.sample(chosen, 4):
+            built = oracle.construction(n, table)
+            # a table that is a parity, or its opposite, has one coefficient alone, and that one's angles are free
+            if n == 1 or note in ("never", "always", "parity", "last variable"):
+                assert oracle.score(built) == 0, (n, note)
+            yield from count_and_fold(f"built, n {n}, {note}", n + 1, built)
+    for w in range(1, 6):
+        for unit in (16384, 8192, 4096):
+            gates = [Phase(gate.wire, unit * rng.randrange(65536 // unit)) if isinstance(gate, Phase) else gate
+                     for gate in random_gates(rng, w, 40)]
+            yield from count_and_fold(f"multiples of {unit}, {w} wires", w, gates)
 
 
 # Section verdict
