@@ -14,11 +14,11 @@ use Rattle.table.specs.Table.{tableChecks}
 use Rattle.circuit.specs.Bytes.{Bytes}
 use Rattle.circuit.specs.File.{wiresOf, gatesOf, fileChecks}
 use Rattle.spectrum.specs.Spectrum.{spectrumChecks, spectrumOf, transformedSays, Transforms}
-use Rattle.running.specs.Run.{score}
 use Rattle.build.specs.Construction.{buildChecks, builtFile, builtSays, Builds}
-use Rattle.fold.specs.Fold.{folded, foldedFile, foldChecks, foldedSays, Folds}
+use Rattle.fold.specs.Fold.{foldedFile, foldChecks, foldedSays, Folds}
 use Rattle.fold.proofs.Files.{file-shorter}
 use Rattle.fold.proofs.Scores.{score-falls}
+use Rattle.fold.proofs.Callers.{foldValues}
 use Rattle.listing.specs.Listing.{listingOfFile, listChecks, listedSays, Lists}
 use Rattle.listing.proofs.Callers.{list-short}
 use Rattle.oracle_listing.specs.Oracle.{oracleText, oracleChecks, ListsOracle}
@@ -58,16 +58,14 @@ module _ (n : ℕ) (t ns : List ℕ) (zero : getD ns 0 0 ≡ 0) where
 
 -- phg_fold: "[2]: score before, [3]: score after, which is never higher"
 pub fold-scores : (f ns out after : List ℕ) → getD ns 0 0 ≡ 0 → Tells (Folds f out) foldedSays ns after → getD ns 3 0 ≤ getD ns 2 0
-fold-scores f ns out after zero s =
-    let a = all-values foldedSays (foldChecks f (length out)) (length (foldedFile f) ∷ score (gatesOf f) ∷ score (folded (wiresOf f) (gatesOf f)) ∷ []) (foldedFile f) out ns after s refl zero in
-    rw (a .1) (score-falls (wiresOf f) (gatesOf f))
+fold-scores f ns out after zero s = rw (all-values foldedSays (foldChecks f (length out)) (foldValues f) (foldedFile f) out ns after s refl zero .1) (score-falls (wiresOf f) (gatesOf f))
 
 module _ (f : List ℕ) (bytes : Bytes f) (ns : List ℕ) (zero : getD ns 0 0 ≡ 0) (out after : List ℕ) where
   -- phg_fold: "answer[1]: its length, at most file_len"
   pub fold-length : Tells (Folds f out) foldedSays ns after → getD ns 1 0 ≤ length f
   fold-length s =
-      let v = first-value foldedSays (foldChecks f (length out)) (length (foldedFile f)) (score (gatesOf f) ∷ score (folded (wiresOf f) (gatesOf f)) ∷ []) (foldedFile f) out ns after s refl zero in
-      omega (arith, v .1, file-shorter 0 f bytes (parts-pass (fileChecks 0 f) (roomCheck (length out) (length (foldedFile f))) (v .0) .0))
+      let v = all-values foldedSays (foldChecks f (length out)) (foldValues f) (foldedFile f) out ns after s refl zero in
+      omega (arith, ap (λ l. getD l 1 0) (v .1), file-shorter 0 f bytes (parts-pass (fileChecks 0 f) (roomCheck (length out) (length (foldedFile f))) (v .0) .0))
 
   -- phg_list: "answer[1]: its length, at most 65,600"
   pub list-length : (wrapped : Bool) → Tells (Lists wrapped f out) listedSays ns after → getD ns 1 0 ≤ 65600

@@ -21,7 +21,8 @@ use Rattle.running.specs.declared.Ran.{Ran}
 use Rattle.running.specs.declared.Counted.{Counted}
 use Rattle.running.specs.Run.{ranSays, countedSays, endFrom, phaseFrom, cnots, phases, score, Runs, Counts}
 use Rattle.fold.specs.declared.Folded.{Folded}
-use Rattle.fold.specs.Fold.{folded, foldedFile, foldedSays, Folds}
+use Rattle.fold.specs.Fold.{foldedFile, foldedSays, Folds}
+use Rattle.fold.proofs.Callers.{foldValues}
 use Rattle.listing.specs.declared.Listed.{Listed}
 use Rattle.listing.specs.Listing.{listingOfFile, listedSays, Lists}
 use Rattle.verdict.specs.declared.Compared.{Compared}
@@ -57,7 +58,7 @@ module _ (f : List ℕ) where
   pub fold-whole : (out : List ℕ) (a : Folded) (left : List ℕ) → Folds (take 8201 f) out a left → Folds f out a left
   fold-whole out a left =
       meets-whole (fileChecks 0) (take 8201 f) f (file-cut 0 f) (file-whole 0 f) [] (λ g. roomCheck (length out) (length (foldedFile g)))
-      foldedSays (λ g. length (foldedFile g) ∷ score (gatesOf g) ∷ score (folded (wiresOf g) (gatesOf g)) ∷ []) a foldedFile out left
+      foldedSays foldValues a foldedFile out left
 
   pub list-whole : (wrapped : Bool) (out : List ℕ) (a : Listed) (left : List ℕ) → Lists wrapped (take 8201 f) out a left → Lists wrapped f out a left
   list-whole wrapped out a left =

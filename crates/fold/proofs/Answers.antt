@@ -29,9 +29,7 @@ use Rattle.fold.specs.Fold.{folded, foldedFile, foldedSays, Folds}
 use Rattle.fold.specs.Working.{staying, keptIn, scoreIn}
 use Rattle.fold.proofs.Scores.{score-of-totals, length-folded}
 use Rattle.fold.proofs.Files.{few-gates}
-
-abbrev foldValues : List ℕ → List ℕ
-foldValues f = length (foldedFile f) ∷ score (gatesOf f) ∷ score (folded (wiresOf f) (gatesOf f)) ∷ []
+use Rattle.fold.proofs.Callers.{foldValues}
 
 module _ (f before : List ℕ) where
   pub file-fails : (r : Refusal) → outcome (fileChecks 0 f) ≡ refused r → Folds f before (Refused r) before

@@ -12,8 +12,9 @@ use Rattle.fold.specs.declared.Folded.{Folded}
 use Rattle.fold.specs.declared.Folded.the-variants.{File, Refused}
 use Rattle.fold.specs.Fold.{folded, foldedFile, foldChecks, foldedSays, Folds}
 
-abbrev valuesOf : List ℕ → List ℕ
-valuesOf f = length (foldedFile f) ∷ score (gatesOf f) ∷ score (folded (wiresOf f) (gatesOf f)) ∷ []
+-- what it answers
+abbrev pub foldValues : List ℕ → List ℕ
+foldValues f = length (foldedFile f) ∷ score (gatesOf f) ∷ score (folded (wiresOf f) (gatesOf f)) ∷ []
 
 -- what follows when it answers
 pub record Answered (f before : List ℕ) (l b a : ℕ) (after : List ℕ) : Type 0 where
@@ -26,11 +27,11 @@ pub record Answered (f before : List ℕ) (l b a : ℕ) (after : List ℕ) : Typ
 module _ (f before : List ℕ) (r : Folded) (after : List ℕ) (m : Folds f before r after) where
   pub fold-answers : (l b a : ℕ) → r ≡ File l b a → Answered f before l b a after
   fold-answers l b a e =
-      let v = meets-values foldedSays (outcome (foldChecks f (length before))) (valuesOf f) (foldedFile f) before r after m (l ∷ b ∷ a ∷ []) (ap foldedSays e) in
+      let v = meets-values foldedSays (outcome (foldChecks f (length before))) (foldValues f) (foldedFile f) before r after m (l ∷ b ∷ a ∷ []) (ap foldedSays e) in
       record { passes = v .0; long = cc (v .1); was = cc (v .1); is = cc (v .1); writes = v .2 }
 
   pub fold-refuses : (x : Refusal) → r ≡ Refused x → (outcome (foldChecks f (length before)) ≡ refused x) × (after ≡ before)
-  fold-refuses x e = meets-refusal foldedSays (outcome (foldChecks f (length before))) (valuesOf f) (foldedFile f) before r after m x (ap foldedSays e)
+  fold-refuses x e = meets-refusal foldedSays (outcome (foldChecks f (length before))) (foldValues f) (foldedFile f) before r after m x (ap foldedSays e)
 
 pub folded-distinct : Distinct foldedSays
 folded-distinct (File l b a) (File m c d) e = cc

@@ -29,8 +29,7 @@ use Rattle.running.specs.Run.{endFrom, totalFrom, cnots, phases, freeTurn, scor
 use Rattle.running.proofs.Counts.{multiple-is-free, free-is-multiple}
 use Rattle.running.proofs.Callers.{count-answers}
 use Rattle.running.specs.Masks.{masksFrom, sumMet}
-use Rattle.build.specs.declared.Built.the-variants.{Length as BuiltLength}
-use Rattle.build.specs.Construction.{buildChecks, builtSays, Builds}
+use Rattle.build.specs.Construction.{buildChecks, builtSays}
 use Rattle.fold.specs.declared.Folded.the-variants.{File}
 use Rattle.fold.specs.Fold.{foldedFrom, foldChecks, foldedSays, Folds}
 use Rattle.verdict.specs.declared.Verdict.{Verdict}
@@ -45,10 +44,10 @@ use Rattle.listing.specs.Text.{decimalFrom}
 use Rattle.oracle_listing.specs.Oracle.{oracleChecks}
 use Rattle.oracle_listing.proofs.Callers.{room-for-text}
 use Rattle.promises.specs.Demands.{Refuses}
-use Rattle.promises.specs.Cases.{builtHere, empty, cases}
+use Rattle.promises.specs.Cases.{builtHere, empty}
 use Rattle.promises.specs.Wrong.{Unacceptable, checking, transforming, reading, running, counting, building, folding, comparing, judging, listing, listingOracle, RefusesEverything, AlwaysFinds, LeavesBuffer, Copies, firstMask, firstGroup, FoldsFirstGroup, AlwaysScores, AlwaysScoresBefore, AlwaysScoresAfter, ScoresBy, AlwaysReasons, lastReason, ReasonsByLast}
 use Rattle.promises.proofs.OneAnswer.{one-reading, one-count, one-build, one-fold, one-comparison, one-judgement}
-use Rattle.promises.proofs.Cases.{cases-hold}
+use Rattle.promises.proofs.Cases.{build-here, cnot-differs}
 
 -- no program that goes wrong at every input in such a way meets its contract at every input
 pub no-program : {Input Answer Entry : Type 0} (Contract Wrong : Input → Answer → List Entry → Type 0) → Unacceptable Contract Wrong
@@ -122,12 +121,9 @@ same-file = record { says = refl; leaves = refl }
 one-cnot : List ℕ
 one-cnot = fileOf 2 (Cnot 0 1 ∷ [])
 
-cnot-differs : Compares one-cnot empty (replicate 4 0) (Found (Different 1 3 1 0)) (replicate 4 0)
-unfolding one-cnot cases
-cnot-differs = cases-hold .1 .1 .1 .1 .1 .1 .1 .1 .1 .1 .1 .1 .0
-
 -- Same fails where CNOT 0 to 1 meets the empty circuit; any Different fails where a circuit meets itself
 pub constant-verdict : (v : Verdict) → Unacceptable comparing (AlwaysFinds v)
+unfolding one-cnot
 constant-verdict Same = record {
   input = (one-cnot, empty, replicate 4 0);
   fails = λ a x e m. let q = sym e ∙ one-comparison one-cnot empty (replicate 4 0) a _ x _ m cnot-differs .0 in let z : _≡_ {A = ℕ} 0 1 = cc in omega arith;
@@ -157,10 +153,6 @@ constant-judgement (Different s e f p) = record {
 }
 
 -- ---- leaves its buffer when building
-
-build-here : Builds 1 (2 ∷ []) (replicate 32 0) (BuiltLength 32) builtHere
-unfolding cases
-build-here = cases-hold .1 .1 .1 .1 .0
 
 pub leaves-buffer : Unacceptable building LeavesBuffer
 leaves-buffer = record {
