@@ -17,7 +17,8 @@ use Rattle.circuit.specs.File.{markOf, versionOf, wiresOf, countOf, badO
 pub record GoodFile (f : List ℕ) : Type 0 where
   pub long : 8 ≤ length f
   pub mark : markOf f ≡ 0x504847
-  pub version : versionOf f ≡ 1
+  pub versioned : 1 ≤ versionOf f
+  pub known : versionOf f ≤ 2
   pub some : 1 ≤ wiresOf f
   pub few : wiresOf f ≤ 10
   pub count : countOf f ≤ 2048
@@ -27,11 +28,12 @@ pub record GoodFile (f : List ℕ) : Type 0 where
 pub good-file : (s : ℕ) (f : List ℕ) → outcome (fileChecks s f) ≡ passed → GoodFile f
 good-file s f e =
     let h = passed-fail (fileChecks s f) e in
-    let r = h .1 .1 .1 in
+    let r = h .1 .1 .1 .1 in
     record {
       long = h .0;
       mark = h .1 .0;
-      version = h .1 .1 .0;
+      versioned = omega (arith, h .1 .1 .0);
+      known = h .1 .1 .1 .0;
       some = omega (arith, r .0);
       few = r .1 .0;
       count = r .1 .1 .0;
@@ -41,7 +43,7 @@ good-file s f e =
 
 pub file-passes : (s : ℕ) (f : List ℕ) → GoodFile f → outcome (fileChecks s f) ≡ passed
 file-passes s f h =
-    fail-passed (fileChecks s f) (h .long, (h .mark, (h .version, (omega (arith, h .some), (h .few, (h .count, (h .whole, (h .gates, tt))))))))
+    fail-passed (fileChecks s f) (h .long, (h .mark, (omega (arith, h .versioned), (h .known, (omega (arith, h .some), (h .few, (h .count, (h .whole, (h .gates, tt)))))))))
 
 -- passing at one side is passing at any
 pub passes-anywhere : (s t : ℕ) (f : List ℕ) → outcome (fileChecks s f) ≡ passed → outcome (fileChecks t f) ≡ passed

@@ -13,7 +13,7 @@ use Rattle.refusal.proofs.Outcomes.{Reaches, reaches}
 use Rattle.circuit.specs.declared.Reading.{Reading}
 use Rattle.circuit.specs.declared.Reading.the-variants.{Circuit, Refused}
 use Rattle.circuit.specs.Gates.{firstBad}
-use Rattle.circuit.specs.File.{wiresOf, countOf, badOf, reasonAt, fileChecks, ReadsSide}
+use Rattle.circuit.specs.File.{versionOf, wiresOf, countOf, badOf, reasonAt, fileChecks, ReadsSide}
 
 pub refusing : (s : ℕ) (f : List ℕ) (x : Refusal) (r : Reading) → r ≡ Refused x → Reaches (fileChecks s f) (refused x) → ReadsSide s f r
 refusing s f x r e h = rw (e, reaches (fileChecks s f) (refused x) h)
@@ -24,9 +24,9 @@ answering s f w g p q h = rw (reaches (fileChecks s f) passed h) (ap₂ (λ (m n
 abbrev gateCheck : ℕ → List ℕ → List Check
 gateCheck s f = check (less (badOf f) (countOf f)) (badGate s (badOf f) (reasonAt f (badOf f))) ∷ []
 
-module _ (s : ℕ) (f : List ℕ) (g bad : ℕ) (p : g ≡ countOf f) (q : bad ≡ firstBad (wiresOf f) g 0 (drop 8 f)) where
+module _ (s : ℕ) (f : List ℕ) (v g bad : ℕ) (o : v ≡ versionOf f) (p : g ≡ countOf f) (q : bad ≡ firstBad v (wiresOf f) g 0 (drop 8 f)) where
   found : bad ≡ badOf f
-  found = q ∙ ap (λ (n : ℕ). firstBad (wiresOf f) n 0 (drop 8 f)) p
+  found = q ∙ ap₂ (λ (x n : ℕ). firstBad x (wiresOf f) n 0 (drop 8 f)) o p
 
   -- the last check, for a bad gate that was found, and for none
   pub bad-gate : bad < g → Reaches (gateCheck s f) (refused (badGate s bad (reasonAt f bad)))

@@ -23,7 +23,8 @@ lastChecks s long count bad reason =
 abbrev headChecks : ℕ → ℕ → ℕ → ℕ → List Check → List Check
 headChecks s mark version wires rest =
     check (other mark 0x504847) (refusalAt MARK s 0)
-    ∷ check (other version 1) (refusalAt VERSION s 0)
+    ∷ check (same version 0) (refusalAt VERSION s 0)
+    ∷ check (less 2 version) (refusalAt VERSION s 0)
     ∷ check (same wires 0) (refusalAt WIRES s 0)
     ∷ check (less 10 wires) (refusalAt WIRES s 0)
     ∷ rest
@@ -48,7 +49,7 @@ module _ (s count : ℕ) (l b x m d y : ℕ) (h : 8200 < l) (k : 8200 < m) where
 
   by-header : (mark version wires : ℕ) → outcome (checksOf s l mark version wires count b x) ≡ outcome (checksOf s m mark version wires count d y)
   by-header mark version wires =
-      past _ _ (omega arith) ∙ behind _ _ _ (behind _ _ _ (behind _ _ _ (behind _ _ _ too-long))) ∙ sym (past _ _ (omega arith))
+      past _ _ (omega arith) ∙ behind _ _ _ (behind _ _ _ (behind _ _ _ (behind _ _ _ (behind _ _ _ too-long)))) ∙ sym (past _ _ (omega arith))
 
 same-header : (s l b x m m′ v v′ w w′ c c′ : ℕ) → m ≡ m′ → v ≡ v′ → w ≡ w′ → c ≡ c′ → outcome (checksOf s l m v w c b x) ≡ outcome (checksOf s l m′ v′ w′ c′ b x)
 same-header s l b x m m′ v v′ w w′ c c′ p q r t = rw (p, q, r, t)

@@ -12,62 +12,62 @@ use Rattle.circuit.specs.declared.Reason.{Reason}
 use Rattle.circuit.specs.declared.Decoded.{Decoded}
 use Rattle.circuit.specs.declared.Decoded.the-variants.{Good, Bad}
 use Rattle.circuit.specs.Gates.{decodedAt, firstBad}
-use Rattle.circuit.specs.File.{wiresOf, countOf, badOf, gateAt}
+use Rattle.circuit.specs.File.{versionOf, wiresOf, countOf, badOf, gateAt}
 use Rattle.circuit.proofs.Decoding.{first-bad, first-good}
 
 -- of n gates from position p on, the i-th is the first bad one
-record Found (w n p : ℕ) (bs : List ℕ) : Type 0 where
+record Found (v w n p : ℕ) (bs : List ℕ) : Type 0 where
   i : ℕ
-  at : firstBad w n p bs ≡ p + i
+  at : firstBad v w n p bs ≡ p + i
   reason : Reason
-  bad : decodedAt w (p + i) (drop (4 * i) bs) ≡ Bad reason
-  before : (j : ℕ) → j < i → (g : Placed) × (decodedAt w (p + j) (drop (4 * j) bs) ≡ Good g)
+  bad : decodedAt v w (p + i) (drop (4 * i) bs) ≡ Bad reason
+  before : (j : ℕ) → j < i → (g : Placed) × (decodedAt v w (p + j) (drop (4 * j) bs) ≡ Good g)
 
 -- a gate behind the first, counted from the first
-behind : (w p j : ℕ) (bs : List ℕ) (d : Decoded) → decodedAt w (suc p + j) (drop (4 * j) (drop 4 bs)) ≡ d → decodedAt w (p + suc j) (drop (4 * suc j) bs) ≡ d
-behind w p j bs d e =
+behind : (v w p j : ℕ) (bs : List ℕ) (d : Decoded) → decodedAt v w (suc p + j) (drop (4 * j) (drop 4 bs)) ≡ d → decodedAt v w (p + suc j) (drop (4 * suc j) bs) ≡ d
+behind v w p j bs d e =
     let at : 4 + 4 * j ≡ 4 * suc j = omega arith in
-    subst₂ (λ (q : ℕ) (l : List ℕ). decodedAt w q l ≡ d) (suc-add p j ∙ sym (add-suc p j)) (drop-drop (4 * j) 4 bs ∙ ap (λ (q : ℕ). drop q bs) at) e
+    subst₂ (λ (q : ℕ) (l : List ℕ). decodedAt v w q l ≡ d) (suc-add p j ∙ sym (add-suc p j)) (drop-drop (4 * j) 4 bs ∙ ap (λ (q : ℕ). drop q bs) at) e
 
-found : (w n p : ℕ) (bs : List ℕ) → firstBad w n p bs < p + n → Found w n p bs
+found : (v w n p : ℕ) (bs : List ℕ) → firstBad v w n p bs < p + n → Found v w n p bs
 unfolding firstBad
-found w zero p bs h = absurd (omega arith)
-found w (suc n) p bs h = by (decodedAt w p bs) refl (found w n (suc p) (drop 4 bs))
+found v w zero p bs h = absurd (omega arith)
+found v w (suc n) p bs h = by (decodedAt v w p bs) refl (found v w n (suc p) (drop 4 bs))
   where
-    by : (d : Decoded) → decodedAt w p bs ≡ d → (firstBad w n (suc p) (drop 4 bs) < suc p + n → Found w n (suc p) (drop 4 bs)) → Found w (suc n) p bs
+    by : (d : Decoded) → decodedAt v w p bs ≡ d → (firstBad v w n (suc p) (drop 4 bs) < suc p + n → Found v w n (suc p) (drop 4 bs)) → Found v w (suc n) p bs
     by (Bad x) e rest = record {
       i = 0;
-      at = first-bad w n p bs x e ∙ sym (add-zero p);
+      at = first-bad v w n p bs x e ∙ sym (add-zero p);
       reason = x;
       bad = rw (add-zero p) e;
       before = λ j k. absurd (omega arith);
     }
     by (Good q) e rest =
-        let f = first-good w n p bs q e in
+        let f = first-good v w n p bs q e in
         let r = rest (omega arith) in
         record {
           i = suc (r .i);
           at = f ∙ r .at ∙ suc-add p (r .i) ∙ sym (add-suc p (r .i));
           reason = r .reason;
-          bad = behind w p (r .i) bs (Bad (r .reason)) (r .bad);
+          bad = behind v w p (r .i) bs (Bad (r .reason)) (r .bad);
           before = earlier r;
         }
       where
-        earlier : (r : Found w n (suc p) (drop 4 bs)) (j : ℕ) → j < suc (r .i) → (g : Placed) × (decodedAt w (p + j) (drop (4 * j) bs) ≡ Good g)
+        earlier : (r : Found v w n (suc p) (drop 4 bs)) (j : ℕ) → j < suc (r .i) → (g : Placed) × (decodedAt v w (p + j) (drop (4 * j) bs) ≡ Good g)
         earlier r zero k = (q, rw (add-zero p) e)
-        earlier r (suc j) k = let g = r .before j (omega arith) in (g .0, behind w p j bs (Good (g .0)) (g .1))
+        earlier r (suc j) k = let g = r .before j (omega arith) in (g .0, behind v w p j bs (Good (g .0)) (g .1))
 
 module _ (f : List ℕ) (h : badOf f < countOf f) (whole : length f ≡ 8 + 4 * countOf f) where
-  here : Found (wiresOf f) (countOf f) 0 (drop 8 f)
-  here = found (wiresOf f) (countOf f) 0 (drop 8 f) (omega arith)
+  here : Found (versionOf f) (wiresOf f) (countOf f) 0 (drop 8 f)
+  here = found (versionOf f) (wiresOf f) (countOf f) 0 (drop 8 f) (omega arith)
 
   place : here .i ≡ badOf f
   place = sym (here .at ∙ zero-add (here .i))
 
   -- what the decoder makes of the gate at a position of the list is what it makes of it in the file
-  at-position : (i : ℕ) (d : Decoded) → i < countOf f → decodedAt (wiresOf f) (0 + i) (drop (4 * i) (drop 8 f)) ≡ d → gateAt f i ≡ d
+  at-position : (i : ℕ) (d : Decoded) → i < countOf f → decodedAt (versionOf f) (wiresOf f) (0 + i) (drop (4 * i) (drop 8 f)) ≡ d → gateAt f i ≡ d
   at-position i d k e =
-      rw (le-leb (12 + 4 * i) (length f) (omega arith)) (subst₂ (λ (p : ℕ) (bs : List ℕ). decodedAt (wiresOf f) p bs ≡ d) (zero-add i) (drop-drop (4 * i) 8 f) e)
+      rw (le-leb (12 + 4 * i) (length f) (omega arith)) (subst₂ (λ (p : ℕ) (bs : List ℕ). decodedAt (versionOf f) (wiresOf f) p bs ≡ d) (zero-add i) (drop-drop (4 * i) 8 f) e)
 
   pub first-is-bad : (x : Reason) × (gateAt f (badOf f) ≡ Bad x)
   first-is-bad =

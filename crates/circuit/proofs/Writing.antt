@@ -9,7 +9,7 @@ use lib.ListN.{length, getD, take, drop, set, length-append}
 use lib.Seq.{sets, sets-eq, length-sets}
 use borrow.Author.Tests.{le-leb, lt-leb}
 use Rattle.circuit.specs.declared.Gate.{Gate}
-use Rattle.circuit.specs.declared.Gate.the-variants.{Cnot, Phase}
+use Rattle.circuit.specs.declared.Gate.the-variants.{Cnot, Phase, Inverter}
 use Rattle.circuit.specs.Bytes.{putAt}
 use Rattle.circuit.specs.Gates.{gateBytes}
 use Rattle.circuit.specs.File.{headerBytes}
@@ -49,9 +49,10 @@ four-stored out at a b c d h = simp (add-one, add-two, add-three) (sym (put-sets
 pub four-read : (g : Gate) (bs : List ℕ) → bs ≡ gateBytes g → getD bs 0 0 ∷ getD bs 1 0 ∷ getD bs 2 0 ∷ getD bs 3 0 ∷ [] ≡ gateBytes g
 four-read (Cnot c t) bs e = rw e
 four-read (Phase i a) bs e = rw e
+four-read (Inverter i) bs e = rw e
 
 -- the header in two fours
-pub header-stored : (w g : ℕ) (out half whole : List ℕ) → 8 ≤ length out → half ≡ putAt (0x50 ∷ 0x48 ∷ 0x47 ∷ 0 ∷ []) 0 out → whole ≡ putAt (1 ∷ w ∷ g / 256 ∷ g % 256 ∷ []) 4 half
-    → whole ≡ putAt (headerBytes w g) 0 out
-header-stored w g out half whole h p q =
-    q ∙ ap (putAt (1 ∷ w ∷ g / 256 ∷ g % 256 ∷ []) 4) p ∙ put-put (0x50 ∷ 0x48 ∷ 0x47 ∷ 0 ∷ []) (1 ∷ w ∷ g / 256 ∷ g % 256 ∷ []) 0 out h
+pub header-stored : (v w g : ℕ) (out half whole : List ℕ) → 8 ≤ length out → half ≡ putAt (0x50 ∷ 0x48 ∷ 0x47 ∷ v / 256 ∷ []) 0 out
+    → whole ≡ putAt (v % 256 ∷ w ∷ g / 256 ∷ g % 256 ∷ []) 4 half → whole ≡ putAt (headerBytes v w g) 0 out
+header-stored v w g out half whole h p q =
+    q ∙ ap (putAt (v % 256 ∷ w ∷ g / 256 ∷ g % 256 ∷ []) 4) p ∙ put-put (0x50 ∷ 0x48 ∷ 0x47 ∷ v / 256 ∷ []) (v % 256 ∷ w ∷ g / 256 ∷ g % 256 ∷ []) 0 out h

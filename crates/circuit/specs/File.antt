@@ -15,7 +15,7 @@ use Rattle.circuit.specs.declared.Reading.{Reading}
 use Rattle.circuit.specs.declared.Reading.the-variants.{Circuit, Refused}
 use Rattle.circuit.specs.Gates.{decodedAt, reasonOf, firstBad, gatesFrom, bytesOf}
 
--- "Bytes 50 48 47 ("PHG"), version 1 (16 bits), wires (1 byte), gate count (16 bits), then 4 bytes a gate; high byte first"
+-- "Bytes 50 48 47 ("PHG"), version 1 (16 bits), wires (1 byte), gate count (16 bits), then 4 bytes a gate; high byte first"; 02 §12 adds version 2
 abbrev pub markOf : List ℕ → ℕ
 markOf f = (getD f 0 0 * 256 + getD f 1 0) * 256 + getD f 2 0
 
@@ -30,26 +30,27 @@ countOf f = getD f 6 0 * 256 + getD f 7 0
 
 -- the gate list of a file
 abbrev pub gatesOf : List ℕ → List Gate
-gatesOf f = gatesFrom (wiresOf f) (countOf f) 0 (drop 8 f)
+gatesOf f = gatesFrom (versionOf f) (wiresOf f) (countOf f) 0 (drop 8 f)
 
 -- "the position of the first bad gate"; the gate count where none is bad
 abbrev pub badOf : List ℕ → ℕ
-badOf f = firstBad (wiresOf f) (countOf f) 0 (drop 8 f)
+badOf f = firstBad (versionOf f) (wiresOf f) (countOf f) 0 (drop 8 f)
 
 -- the i-th four bytes after the header, as the gate at position i; without a kind where they do not all lie in the file
 abbrev pub gateAt : List ℕ → ℕ → Decoded
-gateAt f i = cond (leb (12 + 4 * i) (length f)) (decodedAt (wiresOf f) i (drop (8 + 4 * i) f)) (Bad Kind)
+gateAt f i = cond (leb (12 + 4 * i) (length f)) (decodedAt (versionOf f) (wiresOf f) i (drop (8 + 4 * i) f)) (Bad Kind)
 
 -- 02 §4: the reason of the gate at position i
 abbrev pub reasonAt : List ℕ → ℕ → ℕ
 reasonAt f i = reasonOf (gateAt f i)
 
--- rows 4 to 10 of the table, for the file that is given as side s
+-- rows 4 to 10 of the table, for the file that is given as side s; 02 §12, "Refusal 6 is for versions other than 1 and 2"
 abbrev pub fileChecks : ℕ → List ℕ → List Check
 fileChecks s f =
     check (less (length f) 8) (refusalAt SHORT s 0)
     ∷ check (other (markOf f) 0x504847) (refusalAt MARK s 0)
-    ∷ check (other (versionOf f) 1) (refusalAt VERSION s 0)
+    ∷ check (same (versionOf f) 0) (refusalAt VERSION s 0)
+    ∷ check (less 2 (versionOf f)) (refusalAt VERSION s 0)
     ∷ check (same (wiresOf f) 0) (refusalAt WIRES s 0)
     ∷ check (less 10 (wiresOf f)) (refusalAt WIRES s 0)
     ∷ check (less 2048 (countOf f)) (refusalAt COUNT s 0)
@@ -57,13 +58,13 @@ fileChecks s f =
     ∷ check (less (badOf f) (countOf f)) (badGate s (badOf f) (reasonAt f (badOf f)))
     ∷ []
 
--- "Bytes 50 48 47 .., version 1 .., wires .., gate count ..; high byte first"
-abbrev pub headerBytes : ℕ → ℕ → List ℕ
-headerBytes w g = 0x50 ∷ 0x48 ∷ 0x47 ∷ 0 ∷ 1 ∷ w ∷ g / 256 ∷ g % 256 ∷ []
+-- "Bytes 50 48 47 .., version .., wires .., gate count ..; high byte first"
+abbrev pub headerBytes : ℕ → ℕ → ℕ → List ℕ
+headerBytes version w g = 0x50 ∷ 0x48 ∷ 0x47 ∷ version / 256 ∷ version % 256 ∷ w ∷ g / 256 ∷ g % 256 ∷ []
 
--- the file of a gate list on w wires: the header, "then 4 bytes a gate"
-unfoldable pub fileOf : ℕ → List Gate → List ℕ
-fileOf w gs = headerBytes w (length gs) ++ bytesOf gs
+-- the file of a gate list on w wires, of a version: the header, "then 4 bytes a gate"
+unfoldable pub fileOf : ℕ → ℕ → List Gate → List ℕ
+fileOf version w gs = headerBytes version w (length gs) ++ bytesOf gs
 
 -- "The reader answers w and the gate count."
 abbrev pub readingSays : Reading → Said

@@ -7,12 +7,12 @@ use lib.Dec.{leb}
 use lib.ListN.{length, getD}
 use Rattle.circuit.specs.Bytes.{putAt}
 use Rattle.circuit.specs.declared.Gate.{Gate}
-use Rattle.circuit.specs.declared.Gate.the-variants.{Cnot, Phase}
+use Rattle.circuit.specs.declared.Gate.the-variants.{Cnot, Phase, Inverter}
 use Rattle.circuit.specs.Gates.{badKind, badWire, equalWires, badSpare, gateSaid}
 
--- whether four bytes are bad on w wires, for whatever reason
-abbrev pub bad : ℕ → ℕ → ℕ → ℕ → ℕ → Bool
-bad w kind a b c = ((badKind kind || badWire w kind a b) || equalWires kind a b) || badSpare kind c
+-- whether four bytes are bad on w wires in a file of a version, for whatever reason
+abbrev pub bad : ℕ → ℕ → ℕ → ℕ → ℕ → ℕ → Bool
+bad version w kind a b c = ((badKind version kind || badWire w kind a b) || equalWires kind a b) || badSpare kind b c
 
 -- the i-th four bytes after the header
 abbrev pub fourAt : List ℕ → ℕ → List ℕ
@@ -36,10 +36,21 @@ written step put (g ∷ gs) s = put g s ++ written step put gs (step g s)
 abbrev pub Sound : ℕ → Gate → Type 0
 Sound w (Cnot c t) = (c < w) × (t < w) × (c ≡ t → ⊥)
 Sound w (Phase i a) = (i < w) × (a < 65536)
+Sound w (Inverter i) = i < w
 
 unfoldable pub AllSound : ℕ → List Gate → Type 0
 AllSound w [] = Unit {0}
 AllSound w (g ∷ gs) = Sound w g × AllSound w gs
+
+-- and that it can answer in a file of a version: an inverter in version 2 alone
+abbrev pub Admitted : ℕ → Gate → Type 0
+Admitted version (Cnot c t) = Unit {0}
+Admitted version (Phase i a) = Unit {0}
+Admitted version (Inverter i) = version ≡ 2
+
+unfoldable pub AllAdmitted : ℕ → List Gate → Type 0
+AllAdmitted version [] = Unit {0}
+AllAdmitted version (g ∷ gs) = Admitted version g × AllAdmitted version gs
 
 -- entries written at a place, and the place behind them
 pub record Wrote (text : List ℕ) (at : ℕ) (before : List ℕ) (behind : ℕ) (after : List ℕ) : Type 0 where

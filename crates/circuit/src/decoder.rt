@@ -15,10 +15,10 @@ pub(crate) fn sixteen_bits(high: u8, low: u8) -> u16
     (high as u16) * 256 + (low as u16)
 }
 
-fn bad_kind(kind: u8) -> bool
-    ensures { λ r. ⌜ r ≡ badKind kind ⌝ }
+fn bad_kind(version: u16, kind: u8) -> bool
+    ensures { λ r. ⌜ r ≡ badKind version kind ⌝ }
 {
-    (kind != 1) & (kind != 2)
+    (kind != 1) & (kind != 2) & ((kind != 3) | (version != 2))
 }
 
 fn bad_wire(w: u8, kind: u8, a: u8, b: u8) -> bool
@@ -33,17 +33,20 @@ fn equal_wires(kind: u8, a: u8, b: u8) -> bool
     (kind == 1) & (a == b)
 }
 
-fn bad_spare(kind: u8, c: u8) -> bool
-    ensures { λ r. ⌜ r ≡ badSpare kind c ⌝ }
+fn bad_spare(kind: u8, b: u8, c: u8) -> bool
+    ensures { λ r. ⌜ r ≡ badSpare kind b c ⌝ }
 {
-    (kind == 1) & (c != 0)
+    ((kind == 1) & (c != 0)) | ((kind == 3) & ((b != 0) | (c != 0)))
 }
 
 // Whether four bytes are no gate on `w` wires. No branch depends on the kind: in a circuit it is hard to foretell.
-pub(crate) fn is_bad(w: u8, kind: u8, a: u8, b: u8, c: u8) -> bool
-    ensures { λ r. ⌜ r ≡ bad w kind a b c ⌝ }
+pub(crate) fn is_bad(version: u16, w: u8, kind: u8, a: u8, b: u8, c: u8) -> bool
+    ensures { λ r. ⌜ r ≡ bad version w kind a b c ⌝ }
 {
-    bad_kind(kind) | bad_wire(w, kind, a, b) | equal_wires(kind, a, b) | bad_spare(kind, c)
+    bad_kind(version, kind)
+        | bad_wire(w, kind, a, b)
+        | equal_wires(kind, a, b)
+        | bad_spare(kind, b, c)
 }
 
 // The gate of four bytes that are good.
@@ -56,15 +59,18 @@ pub(crate) fn gate_of(kind: u8, a: u8, b: u8, c: u8) -> Gate
             target: b,
         };
     }
+    if kind == 3 {
+        return Gate::Inverter { wire: a };
+    }
     let angle = sixteen_bits(b, c);
     Gate::Phase { wire: a, angle }
 }
 
-// The gate of four bytes on `w` wires, or the first of the four reasons why it is bad.
-pub fn decode(w: u8, position: usize, kind: u8, a: u8, b: u8, c: u8) -> Decoded
-    ensures { λ r. ⌜ r ≡ decoded w position kind a b c ⌝ }
+// The gate of four bytes on `w` wires in a file of that version, or the first of the four reasons why it is bad.
+pub fn decode(version: u16, w: u8, position: usize, kind: u8, a: u8, b: u8, c: u8) -> Decoded
+    ensures { λ r. ⌜ r ≡ decoded version w position kind a b c ⌝ }
 {
-    if bad_kind(kind) {
+    if bad_kind(version, kind) {
         return Decoded::Bad(Reason::Kind);
     }
     if bad_wire(w, kind, a, b) {
@@ -73,7 +79,7 @@ pub fn decode(w: u8, position: usize, kind: u8, a: u8, b: u8, c: u8) -> Decoded
     if equal_wires(kind, a, b) {
         return Decoded::Bad(Reason::Equal);
     }
-    if bad_spare(kind, c) {
+    if bad_spare(kind, b, c) {
         return Decoded::Bad(Reason::Spare);
     }
     let gate = gate_of(kind, a, b, c);

@@ -4,6 +4,7 @@ use crate::Gate;
 use crate::Reason;
 use crate::decoder::decode;
 use crate::decoder::gate_of;
+use crate::decoder::sixteen_bits;
 ghost use mathlib.Core.Path.{_≡_};
 ghost use mathlib.Core.Bool.{true, false};
 ghost use Prim.Native.Nat.{_+_, _*_, _≤_, _<_};
@@ -38,7 +39,8 @@ pub fn gate_at(file: &[u8], i: usize) -> Decoded
         return Decoded::Bad(Reason::Kind);
     }
     let four = four_at(file, i);
-    decode(file[5], i, four[0], four[1], four[2], four[3])
+    let version = sixteen_bits(file[3], file[4]);
+    decode(version, file[5], i, four[0], four[1], four[2], four[3])
 }
 
 // The gate at position `i` of a file that has passed; a phase of 0 where its bytes do not all lie in the file.

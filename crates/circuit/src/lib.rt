@@ -15,10 +15,11 @@ pub use reader::read_side;
 pub use writer::put_gate;
 pub use writer::put_header;
 
-// A gate is one of CNOT or phase.
+// A gate is one of CNOT or phase; in a file of version 2 it may be an inverter (02 §12).
 pub enum Gate {
     Cnot { control: u8, target: u8 },
     Phase { wire: u8, angle: u16 },
+    Inverter { wire: u8 },
 }
 
 // A gate with its position from 0.

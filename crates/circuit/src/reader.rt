@@ -15,14 +15,14 @@ ghost use Rattle.circuit.specs.Gates.{firstBad};
 ghost use Rattle.circuit.specs.File.{wiresOf, reasonAt, ReadsSide, Reads};
 
 // The position of the first bad gate, or `gates` where none is bad.
-fn first_bad(file: &[u8], gates: usize) -> usize
+fn first_bad(file: &[u8], version: u16, gates: usize) -> usize
     requires { ⌜ 8 + 4 * gates ≤ length (now file) ⌝ }
-    ensures { λ r. ⌜ r ≡ firstBad (wiresOf (now (file .entry))) gates 0 (drop 8 (now (file .entry))) ⌝ }
+    ensures { λ r. ⌜ r ≡ firstBad version (wiresOf (now (file .entry))) gates 0 (drop 8 (now (file .entry))) ⌝ }
 {
     let mut i: usize = 0;
     while i < gates {
         let four = four_at(file, i);
-        if is_bad(file[5], four[0], four[1], four[2], four[3]) {
+        if is_bad(version, file[5], four[0], four[1], four[2], four[3]) {
             return i;
         }
         i += 1;
@@ -71,7 +71,11 @@ pub fn read_side(file: &[u8], side: u8) -> Reading
     if mark(file[0], file[1], file[2]) != 0x504847 {
         return refused(refusal::MARK, side);
     }
-    if sixteen_bits(file[3], file[4]) != 1 {
+    let version = sixteen_bits(file[3], file[4]);
+    if version == 0 {
+        return refused(refusal::VERSION, side);
+    }
+    if version > 2 {
         return refused(refusal::VERSION, side);
     }
     let wires = file[5];
@@ -88,7 +92,7 @@ pub fn read_side(file: &[u8], side: u8) -> Reading
     if file.len() != 8 + 4 * gates {
         return refused(refusal::LENGTH, side);
     }
-    let bad = first_bad(file, gates);
+    let bad = first_bad(file, version, gates);
     if bad < gates {
         return refused_gate(file, side, bad);
     }

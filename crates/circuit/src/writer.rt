@@ -29,6 +29,7 @@ fn gate_bytes(gate: Gate) -> [u8; 4]
     match gate {
         Gate::Cnot { control, target } => [1, control, target, 0],
         Gate::Phase { wire, angle } => [2, wire, (angle / 256) as u8, (angle % 256) as u8],
+        Gate::Inverter { wire } => [3, wire, 0, 0],
     }
 }
 
@@ -41,12 +42,19 @@ pub fn put_gate(gate: Gate, out: &mut [u8], at: usize)
 }
 
 // A file's header at the front; where it does not fit, nothing is written.
-pub fn put_header(wires: u8, gates: u16, out: &mut [u8])
-    ensures { λ _. ⌜ now (out .exit) ≡ putAt (headerBytes wires gates) 0 (now (out .entry)) ⌝ }
+pub fn put_header(version: u16, wires: u8, gates: u16, out: &mut [u8])
+    ensures { λ _. ⌜ now (out .exit) ≡ putAt (headerBytes version wires gates) 0 (now (out .entry)) ⌝ }
 {
     if out.len() < 8 {
         return;
     }
-    put_four(out, 0, 0x50, 0x48, 0x47, 0);
-    put_four(out, 4, 1, wires, (gates / 256) as u8, (gates % 256) as u8)
+    put_four(out, 0, 0x50, 0x48, 0x47, (version / 256) as u8);
+    put_four(
+        out,
+        4,
+        (version % 256) as u8,
+        wires,
+        (gates / 256) as u8,
+        (gates % 256) as u8,
+    )
 }

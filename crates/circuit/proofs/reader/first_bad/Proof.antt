@@ -11,10 +11,10 @@ use Rattle.circuit.proofs.reader.first_bad.Statement.{statement}
 use Rattle.circuit.proofs.reader.first_bad.Tie as tie
 
 abbrev Inv-loop : tie.InvT-loop
-Inv-loop file gates i₀ i = (i ≤ gates) × (firstBad (wiresOf file) (gates - i) i (drop (8 + 4 * i) file) ≡ firstBad (wiresOf file) gates 0 (drop 8 file))
+Inv-loop file version gates i₀ i = (i ≤ gates) × (firstBad version (wiresOf file) (gates - i) i (drop (8 + 4 * i) file) ≡ firstBad version (wiresOf file) gates 0 (drop 8 file))
 
 abbrev μ-loop : tie.MeasureT-loop
-μ-loop file gates i₀ i = gates - i
+μ-loop file version gates i₀ i = gates - i
 
 abbrev loop : tie.After-is-bad Inv-loop μ-loop → tie.At-loop Inv-loop μ-loop
 loop c = c .before .before .before .before
@@ -51,7 +51,7 @@ returns c =
     let at = loop (c .before) in
     let a = start at .args in
     let four = c .before .before .before .four-at in
-    sym (search-stops (a .file .now) (a .gates) (at .loop .i) (omega arith) (four .result) (four .ensures) (sym (c .before .is-bad .ensures) ∙ c .if1 .taken)) ∙ at .loop .inv .1
+    sym (search-stops (a .file .now) (a .version) (a .gates) (at .loop .i) (omega arith) (four .result) (four .ensures) (sym (c .before .is-bad .ensures) ∙ c .if1 .taken)) ∙ at .loop .inv .1
 
 add-i : tie.Need-add-i Inv-loop μ-loop
 add-i c = omega arith
@@ -64,13 +64,13 @@ loop-again c =
     let at = loop (c .before) in
     let a = start at .args in
     let four = c .before .before .before .four-at in
-    (omega arith, sym (search-goes-on (a .file .now) (a .gates) (at .loop .i) (omega arith) (four .result) (four .ensures) (sym (c .before .is-bad .ensures) ∙ c .if1 .left)) ∙ at .loop .inv .1)
+    (omega arith, sym (search-goes-on (a .file .now) (a .version) (a .gates) (at .loop .i) (omega arith) (four .result) (four .ensures) (sym (c .before .is-bad .ensures) ∙ c .if1 .left)) ∙ at .loop .inv .1)
 
 returns-2 : tie.Need-returns-2 Inv-loop μ-loop
 returns-2 c =
     let at = c .before in
     let a = start at .args in
-    search-done (a .file .now) (a .gates) (at .loop .i) (omega arith) ∙ at .loop .inv .1
+    search-done (a .file .now) (a .version) (a .gates) (at .loop .i) (omega arith) ∙ at .loop .inv .1
 
 pub first-bad-spec : {M : Type 1} → statement M
 first-bad-spec =

@@ -10,11 +10,14 @@ enum-known-gate c = search needs
 enum-known-gate-2 : tie.Need-enum-known-gate-2
 enum-known-gate-2 c = search needs
 
-cast-t8 : tie.Need-cast-t8
-cast-t8 c = search needs
+cast-t9 : tie.Need-cast-t9
+cast-t9 c = search needs
 
-cast-t10 : tie.Need-cast-t10
-cast-t10 c = search needs
+cast-t11 : tie.Need-cast-t11
+cast-t11 c = search needs
+
+enum-known-gate-3 : tie.Need-enum-known-gate-3
+enum-known-gate-3 c = search needs
 
 returns : tie.Need-returns
 returns c = sym (ap gateBytes (c .before .gate .given .1))
@@ -22,6 +25,18 @@ returns c = sym (ap gateBytes (c .before .gate .given .1))
 returns-2 : tie.Need-returns-2
 returns-2 c = sym (ap gateBytes (c .before .gate2 .given .1))
 
+returns-3 : tie.Need-returns-3
+returns-3 c = sym (ap gateBytes (c .before .gate3 .given .1))
+
 pub gate-bytes-spec : {M : Type 1} → statement M
 gate-bytes-spec =
-    tie.close (tie.spec enum-known-gate enum-known-gate-2 cast-t8 cast-t10 returns returns-2)
+    tie.close
+    (tie.spec
+    enum-known-gate
+    enum-known-gate-2
+    cast-t9
+    cast-t11
+    enum-known-gate-3
+    returns
+    returns-2
+    returns-3)
