@@ -7,14 +7,14 @@ use mathlib.Core.Bool.{Bool, true, false}
 use mathlib.Core.List.{List, [], _∷_, _++_}
 use lib.ListN.{length, length-append}
 use Rattle.circuit.specs.declared.Gate.{Gate}
-use Rattle.circuit.specs.declared.Gate.the-variants.{Cnot, Phase}
+use Rattle.circuit.specs.declared.Gate.the-variants.{Cnot, Phase, Inverter}
 use Rattle.circuit.specs.Working.{Sound, AllSound}
 use Rattle.circuit.proofs.Decoding.{sound-wider}
 use Rattle.listing.specs.Text.{decimal, numbered}
 use Rattle.listing.specs.Words.{words}
 use Rattle.listing.specs.Fractions.{Fraction, fractionOf}
-use Rattle.listing.specs.Listing.{headLines, wrapLine, cnotLine, phaseLine, gateLine, gateLines, listingOf, refusedLine}
-use Rattle.listing.specs.Working.{headLength, cnotLength, phaseLength, longestLine}
+use Rattle.listing.specs.Listing.{headLines, wrapLine, cnotLine, phaseLine, inverterLine, gateLine, gateLines, listingOf, refusedLine}
+use Rattle.listing.specs.Working.{headLength, cnotLength, phaseLength, inverterLength, longestLine}
 use Rattle.listing.proofs.Decimals.{one-digit, two-digits, five-digits}
 use Rattle.listing.proofs.Fractions.{denominator-most, fraction-equals}
 
@@ -38,6 +38,10 @@ pub phase-long : (i : ℕ) (f : Fraction) → length (phaseLine i f) ≡ phaseLe
 unfolding phaseLine
 phase-long i f =
     omega (arith, length-append (decimal (f .above)) (numbered (words .over) (f .below) ++ (numbered (words .wire) i ++ words .closing)), length-append (decimal (f .below)) (numbered (words .wire) i ++ words .closing), length-append (decimal i) (words .closing))
+
+pub inverter-long : (i : ℕ) → length (inverterLine i) ≡ inverterLength i
+unfolding inverterLine
+inverter-long i = omega (arith, length-append (decimal i) (words .closing))
 
 pub refused-long : (n : ℕ) → length (refusedLine n) ≡ length (words .refused) + length (decimal n) + length (words .newline)
 unfolding refusedLine
@@ -63,6 +67,7 @@ line-short (Phase i a) s =
       five-digits (f .below) (omega arith),
       one-digit i (s .0),
     )
+line-short (Inverter i) s = omega (arith, inverter-long i, one-digit i s)
 
 pub lines-short : (w : ℕ) → w ≤ 10 → (gs : List Gate) → AllSound w gs → length (gateLines gs) ≤ longestLine * length gs
 unfolding AllSound gateLines

@@ -7,12 +7,12 @@ use mathlib.Core.Bool.{Bool, true, false}
 use mathlib.Core.List.{List, [], _++_}
 use lib.ListN.{length}
 use Rattle.circuit.specs.declared.Gate.{Gate}
-use Rattle.circuit.specs.declared.Gate.the-variants.{Cnot, Phase}
+use Rattle.circuit.specs.declared.Gate.the-variants.{Cnot, Phase, Inverter}
 use Rattle.circuit.specs.File.{wiresOf, gatesOf}
 use Rattle.listing.specs.Text.{numbered}
 use Rattle.listing.specs.Words.{words}
 use Rattle.listing.specs.Fractions.{Fraction, fractionOf}
-use Rattle.listing.specs.Listing.{headLines, wrapLine, cnotLine, phaseLine, gateLine, gateLines, listingOf, listingOfFile, refusedLine}
+use Rattle.listing.specs.Listing.{headLines, wrapLine, cnotLine, phaseLine, inverterLine, gateLine, gateLines, listingOf, listingOfFile, refusedLine}
 use Rattle.circuit.proofs.Parts.{Left, all-left}
 
 pub head-left : (w at : ℕ) (out : List ℕ) → at + length (headLines w) ≤ length out
@@ -40,6 +40,10 @@ module _ (at : ℕ) (out : List ℕ) where
   unfolding phaseLine
   phase-left i f h = all-left at out refl h
 
+pub inverter-pieces : (i : ℕ) → numbered (words .inverter) i ++ words .closing ≡ inverterLine i
+unfolding inverterLine
+inverter-pieces i = refl
+
 -- a gate's line is the one of its kind
 module _ {g : Gate} where
   pub cnot-said : (c t : ℕ) → g ≡ Cnot c t → cnotLine c t ≡ gateLine g
@@ -47,6 +51,9 @@ module _ {g : Gate} where
 
   pub phase-said : (i a : ℕ) (f : Fraction) → g ≡ Phase i a → f ≡ fractionOf a → phaseLine i f ≡ gateLine g
   phase-said i a f e q = ap (phaseLine i) q ∙ sym (ap gateLine e)
+
+  pub inverter-said : (i : ℕ) → g ≡ Inverter i → inverterLine i ≡ gateLine g
+  inverter-said i e = sym (ap gateLine e)
 
 pub listing-left : (b : Bool) (f : List ℕ) (w : ℕ) (out : List ℕ) → w ≡ wiresOf f → length (listingOfFile b f) ≤ length out
     → Left (listingOfFile b f) 0 out (headLines w ++ (wrapLine b w ++ (gateLines (gatesOf f) ++ wrapLine b w))) 0 out

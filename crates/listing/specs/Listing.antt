@@ -6,7 +6,7 @@ use lib.ListN.{length}
 use Rattle.refusal.specs.Checks.{Check, outcome, roomCheck}
 use Rattle.refusal.specs.Contract.{Said, values, saidOf, Meets}
 use Rattle.circuit.specs.declared.Gate.{Gate}
-use Rattle.circuit.specs.declared.Gate.the-variants.{Cnot, Phase}
+use Rattle.circuit.specs.declared.Gate.the-variants.{Cnot, Phase, Inverter}
 use Rattle.circuit.specs.File.{wiresOf, gatesOf, fileChecks}
 use Rattle.listing.specs.declared.Listed.{Listed}
 use Rattle.listing.specs.declared.Listed.the-variants.{Length, Refused}
@@ -31,10 +31,15 @@ cnotLine c t = numbered (words .cnot) c ++ (numbered (words .target) t ++ words 
 unfoldable pub phaseLine : ℕ → Fraction → List ℕ
 phaseLine i f = numbered (words .phase) (f .above) ++ (numbered (words .over) (f .below) ++ (numbered (words .wire) i ++ words .closing))
 
+-- 02 §12, "the text forms say `x q[i];`"
+unfoldable pub inverterLine : ℕ → List ℕ
+inverterLine i = numbered (words .inverter) i ++ words .closing
+
 -- the line of a gate
 abbrev pub gateLine : Gate → List ℕ
 gateLine (Cnot c t) = cnotLine c t
 gateLine (Phase i a) = phaseLine i (fractionOf a)
+gateLine (Inverter i) = inverterLine i
 
 -- "one line a gate"
 unfoldable pub gateLines : List Gate → List ℕ

@@ -18,6 +18,8 @@ pub record Words : Type 0 where
   pub phase : List ℕ
   pub over : List ℕ
   pub wire : List ℕ
+  -- before the wire of an inverter
+  pub inverter : List ℕ
   -- what ends a line that names a wire
   pub closing : List ℕ
   -- before the number of a refusal, and what ends that line
@@ -36,6 +38,7 @@ words = record {
   phase = ascii "u1(";
   over = ascii "*pi/";
   wire = ascii ") q[";
+  inverter = ascii "x q[";
   closing = ascii "];\n";
   refused = ascii "refused ";
   newline = ascii "\n";

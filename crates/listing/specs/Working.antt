@@ -20,6 +20,9 @@ cnotLength c t = length (words .cnot) + length (decimal c) + length (words .targ
 abbrev pub phaseLength : ℕ → ℕ → ℕ → ℕ
 phaseLength i k d = length (words .phase) + length (decimal k) + length (words .over) + length (decimal d) + length (words .wire) + length (decimal i) + length (words .closing)
 
+abbrev pub inverterLength : ℕ → ℕ
+inverterLength i = length (words .inverter) + length (decimal i) + length (words .closing)
+
 -- that of a phase gate whose K and D have five digits and whose wire has one
 abbrev pub longestLine : ℕ
 longestLine = length (words .phase) + length (words .over) + length (words .wire) + length (words .closing) + 11

@@ -11,7 +11,7 @@ ghost use lib.ListN.{length};
 ghost use Rattle.circuit.specs.Working.{Wrote};
 ghost use Rattle.listing.specs.Fractions.{over, fractionOf};
 ghost use Rattle.listing.specs.Listing.{headLines, wrapLine, cnotLine, phaseLine, gateLine};
-ghost use Rattle.listing.specs.Working.{headLength, cnotLength, phaseLength};
+ghost use Rattle.listing.specs.Working.{headLength, cnotLength, phaseLength, inverterLength};
 
 // How often an angle and 32,768 can both be halved.
 fn halvings(angle: u16) -> u16
@@ -86,6 +86,12 @@ fn phase_length(wire: u8, above: u16, below: u16) -> usize
         + words::CLOSING.len()
 }
 
+fn inverter_length(wire: u8) -> usize
+    ensures { λ r. ⌜ r ≡ inverterLength wire ⌝ }
+{
+    words::INVERTER.len() + digits(wire as u16) + words::CLOSING.len()
+}
+
 // The length of a gate's line.
 pub(crate) fn line_length(gate: Gate) -> usize
     ensures { λ r. ⌜ r ≡ length (gateLine gate) ⌝ }
@@ -96,6 +102,7 @@ pub(crate) fn line_length(gate: Gate) -> usize
             let twos = halvings(angle);
             phase_length(wire, angle >> twos, 32768 >> twos)
         }
+        Gate::Inverter { wire } => inverter_length(wire),
     }
 }
 
@@ -127,5 +134,6 @@ pub(crate) fn put_gate(gate: Gate, out: &mut [u8], at: usize) -> usize
             let twos = halvings(angle);
             put_phase(wire, angle >> twos, 32768 >> twos, out, at)
         }
+        Gate::Inverter { wire } => put_last(&words::INVERTER, wire as u16, out, at),
     }
 }

@@ -21,6 +21,9 @@ pub(crate) const OVER: [u8; 4] = *b"*pi/";
 
 pub(crate) const WIRE: [u8; 4] = *b") q[";
 
+// Before the wire of an inverter.
+pub(crate) const INVERTER: [u8; 4] = *b"x q[";
+
 // What ends a line that names a wire.
 pub(crate) const CLOSING: [u8; 3] = *b"];\n";
 

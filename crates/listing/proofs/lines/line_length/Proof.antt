@@ -2,8 +2,8 @@ use Prim.Native.Nat.{_/_, _^_}
 use mathlib.Core.Path.{sym, ap, _∙_}
 use lib.ListN.{length}
 use Rattle.listing.specs.Fractions.{over}
-use Rattle.listing.proofs.Pieces.{cnot-said, phase-said}
-use Rattle.listing.proofs.Lengths.{cnot-long, phase-long}
+use Rattle.listing.proofs.Pieces.{cnot-said, phase-said, inverter-said}
+use Rattle.listing.proofs.Lengths.{cnot-long, phase-long, inverter-long}
 use borrow.Author.Needs.{needs}
 use Rattle.listing.proofs.lines.line_length.Statement.{statement}
 use Rattle.listing.proofs.lines.line_length.Tie as tie
@@ -29,6 +29,12 @@ shr-phase-length-2 c = search needs
 phase-length-requires : tie.Need-phase-length-requires
 phase-length-requires c κs = search needs
 
+enum-known-gate-3 : tie.Need-enum-known-gate-3
+enum-known-gate-3 c = search needs
+
+inverter-length-requires : tie.Need-inverter-length-requires
+inverter-length-requires c κs = search needs
+
 returns : tie.Need-returns
 returns c =
     let v = c .before .before .gate .given in
@@ -42,6 +48,11 @@ returns-2 c =
     let f = over (v .0 .1 .0 / 2 ^ r) (32768 / 2 ^ r) in
     c .phase-length .ensures ∙ sym (phase-long (v .0 .0) f) ∙ ap length (phase-said (v .0 .0) (v .0 .1 .0) f (v .1) (h .halvings .ensures .1))
 
+returns-3 : tie.Need-returns-3
+returns-3 c =
+    let v = c .before .before .gate3 .given in
+    c .inverter-length .ensures ∙ sym (inverter-long (v .0 .0)) ∙ ap length (inverter-said (v .0 .0) (v .1))
+
 pub line-length-spec : {M : Type 1} → statement M
 line-length-spec =
     tie.close
@@ -53,5 +64,8 @@ line-length-spec =
     shr-phase-length
     shr-phase-length-2
     phase-length-requires
+    enum-known-gate-3
+    inverter-length-requires
     returns
-    returns-2)
+    returns-2
+    returns-3)
