@@ -1,5 +1,5 @@
 -- The list of a function's values.
-use Prim.Native.Nat.{ℕ, zero, suc, _+_, _<_}
+use Prim.Native.Nat.{ℕ, zero, suc, _+_, _<_, _≤_}
 use native.Mathlib.Nat.{zero-add, suc-add, add-zero}
 use native.Mathlib.Numerals.{add-one}
 use native.Mathlib.Omega.{arith}
@@ -18,6 +18,12 @@ module _ {A : Type 0} where
   getD-list zero f i d h = absurd (omega arith)
   getD-list (suc n) f zero d h = refl
   getD-list (suc n) f (suc i) d h = getD-list n (λ j. f (suc j)) i d (omega arith)
+
+  -- at every place, if behind the list it is the value too
+  pub getD-list-else : (n : ℕ) (f : ℕ → A) (i : ℕ) (d : A) → (n ≤ i → d ≡ f i) → getD (list n f) i d ≡ f i
+  getD-list-else zero f i d h = h (omega arith)
+  getD-list-else (suc n) f zero d h = refl
+  getD-list-else (suc n) f (suc i) d h = getD-list-else n (λ j. f (suc j)) i d (λ l. h (omega arith))
 
   -- a list is that of a function where it has as many entries and each is the function's value
   pub is-list : (d : A) (l : List A) (n : ℕ) (f : ℕ → A) → length l ≡ n → ((i : ℕ) → i < n → getD l i d ≡ f i) → l ≡ list n f

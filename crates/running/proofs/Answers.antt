@@ -12,7 +12,7 @@ use Rattle.running.specs.declared.Ran.{Ran}
 use Rattle.running.specs.declared.Ran.the-variants.{End}
 use Rattle.running.specs.declared.Counted.{Counted}
 use Rattle.running.specs.declared.Counted.the-variants.{Gates}
-use Rattle.running.specs.Run.{endFrom, phaseFrom, runChecks, Runs, cnots, phases, score, Counts}
+use Rattle.running.specs.Run.{endFrom, phaseFrom, runChecks, Runs, cnots, phases, score, inverters, Counts}
 
 abbrev stateCheck : List ℕ → ℕ → List Check
 stateCheck f start = check (atLeast start (2 ^ wiresOf f)) (refusal STATE) ∷ []
@@ -31,5 +31,5 @@ module _ (f : List ℕ) (start : ℕ) where
 pub ran-end : (f : List ℕ) (start : ℕ) (r : Ran) → outcome (runChecks f start) ≡ passed → r ≡ End (endFrom (gatesOf f) start) (phaseFrom (gatesOf f) start) → Runs f start r
 ran-end f start r e p = rw (p, e)
 
-pub counted-gates : (f : List ℕ) (r : Counted) → outcome (fileChecks 0 f) ≡ passed → r ≡ Gates (cnots (gatesOf f)) (phases (gatesOf f)) (score (gatesOf f)) → Counts f r
+pub counted-gates : (f : List ℕ) (r : Counted) → outcome (fileChecks 0 f) ≡ passed → r ≡ Gates (cnots (gatesOf f)) (phases (gatesOf f)) (score (gatesOf f)) (inverters (gatesOf f)) → Counts f r
 counted-gates f r e p = rw (p, e)

@@ -11,8 +11,8 @@ use Rattle.running.specs.declared.Ran.{Ran}
 use Rattle.running.specs.declared.Ran.the-variants.{End, Refused as RunRefused}
 use Rattle.running.specs.declared.Counted.{Counted}
 use Rattle.running.specs.declared.Counted.the-variants.{Gates, Refused as CountRefused}
-use Rattle.running.specs.Run.{endFrom, phaseFrom, runChecks, ranSays, Runs, cnots, phases, score, countedSays, Counts}
-use Rattle.running.specs.Groups.{totalsOf, masksOf, SumsGroups}
+use Rattle.running.specs.Run.{endFrom, phaseFrom, runChecks, ranSays, Runs, cnots, phases, score, inverters, countedSays, Counts}
+use Rattle.running.specs.Groups.{totalsOf, endsHeld, SumsGroups}
 
 module _ (f : List ℕ) (start : ℕ) (r : Ran) (says : Runs f start r) where
   pub run-answers : (s p : ℕ) → r ≡ End s p → (outcome (runChecks f start) ≡ passed) × (s ≡ endFrom (gatesOf f) start) × (p ≡ phaseFrom (gatesOf f) start)
@@ -24,27 +24,31 @@ module _ (f : List ℕ) (start : ℕ) (r : Ran) (says : Runs f start r) where
   run-refuses x e = answers-refusal ranSays (outcome (runChecks f start)) (endFrom (gatesOf f) start ∷ phaseFrom (gatesOf f) start ∷ []) r says x (ap ranSays e)
 
 -- what follows when the count answers
-pub record Tallied (f : List ℕ) (c p s : ℕ) : Type 0 where
+pub record Tallied (f : List ℕ) (c p s x : ℕ) : Type 0 where
   pub passes : outcome (fileChecks 0 f) ≡ passed
   pub has-cnots : c ≡ cnots (gatesOf f)
   pub has-phases : p ≡ phases (gatesOf f)
   pub has-score : s ≡ score (gatesOf f)
+  pub has-inverters : x ≡ inverters (gatesOf f)
 
 module _ (f : List ℕ) (r : Counted) (says : Counts f r) where
-  pub count-answers : (c p s : ℕ) → r ≡ Gates c p s → Tallied f c p s
-  count-answers c p s e =
-      let v = answers-values countedSays (outcome (fileChecks 0 f)) (cnots (gatesOf f) ∷ phases (gatesOf f) ∷ score (gatesOf f) ∷ []) r says (c ∷ p ∷ s ∷ []) (ap countedSays e) in
-      record { passes = v .0; has-cnots = cc (v .1); has-phases = cc (v .1); has-score = cc (v .1) }
+  abbrev counts : List ℕ
+  counts = cnots (gatesOf f) ∷ phases (gatesOf f) ∷ score (gatesOf f) ∷ inverters (gatesOf f) ∷ []
+
+  pub count-answers : (c p s x : ℕ) → r ≡ Gates c p s x → Tallied f c p s x
+  count-answers c p s x e =
+      let v = answers-values countedSays (outcome (fileChecks 0 f)) counts r says (c ∷ p ∷ s ∷ x ∷ []) (ap countedSays e) in
+      record { passes = v .0; has-cnots = cc (v .1); has-phases = cc (v .1); has-score = cc (v .1); has-inverters = cc (v .1) }
 
   pub count-refuses : (x : Refusal) → r ≡ CountRefused x → outcome (fileChecks 0 f) ≡ refused x
-  count-refuses x e = answers-refusal countedSays (outcome (fileChecks 0 f)) (cnots (gatesOf f) ∷ phases (gatesOf f) ∷ score (gatesOf f) ∷ []) r says x (ap countedSays e)
+  count-refuses x e = answers-refusal countedSays (outcome (fileChecks 0 f)) counts r says x (ap countedSays e)
 
--- the totals and the masks of a file that passes, and of one that is refused
-module _ (side : ℕ) (f : List ℕ) {totals masks : List ℕ} {answer : Reading} {totals′ masks′ : List ℕ} (s : SumsGroups side f totals masks answer totals′ masks′) where
-  pub groups-answer : outcome (fileChecks side f) ≡ passed → (totals′ ≡ totalsOf f) × (masks′ ≡ masksOf f)
+-- the totals and what the wires hold, of a file that passes, and of one that is refused
+module _ (side : ℕ) (f : List ℕ) {totals held : List ℕ} {answer : Reading} {totals′ held′ : List ℕ} (s : SumsGroups side f totals held answer totals′ held′) where
+  pub groups-answer : outcome (fileChecks side f) ≡ passed → (totals′ ≡ totalsOf f) × (held′ ≡ endsHeld f)
   groups-answer e = (rw e at (s .sums), rw e at (s .holds))
 
-  pub groups-refuse : (x : Refusal) → outcome (fileChecks side f) ≡ refused x → (totals′ ≡ totals) × (masks′ ≡ masks)
+  pub groups-refuse : (x : Refusal) → outcome (fileChecks side f) ≡ refused x → (totals′ ≡ totals) × (held′ ≡ held)
   groups-refuse x e = (rw e at (s .sums), rw e at (s .holds))
 
 pub ran-distinct : Distinct ranSays
@@ -54,7 +58,7 @@ ran-distinct (RunRefused x) (End t q) e = cc
 ran-distinct (RunRefused x) (RunRefused y) e = ap RunRefused (same-refusal x y e)
 
 pub counted-distinct : Distinct countedSays
-counted-distinct (Gates c p s) (Gates d q t) e = cc
-counted-distinct (Gates c p s) (CountRefused x) e = cc
-counted-distinct (CountRefused x) (Gates d q t) e = cc
+counted-distinct (Gates c p s x) (Gates d q t y) e = cc
+counted-distinct (Gates c p s z) (CountRefused x) e = cc
+counted-distinct (CountRefused x) (Gates d q t y) e = cc
 counted-distinct (CountRefused x) (CountRefused y) e = ap CountRefused (same-refusal x y e)

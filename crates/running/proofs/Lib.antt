@@ -1,6 +1,7 @@
 pub mod Callers
 pub mod Counts
 pub mod Masks
+pub mod Held
 pub mod Runs
 pub mod Groups
 pub mod Meetings

@@ -1,29 +1,71 @@
--- What a gate does to the state of each walk.
-use Prim.Native.Nat.{ℕ, _+_, _*_, _%_}
+-- What a wire holds as the code keeps it, one number: twice the mask, and the flip. What a gate does to the state of each walk.
+use Prim.Native.Nat.{ℕ, suc, _+_, _*_, _%_, _^_}
 use mathlib.Core.List.{List, [], _∷_}
+use lib.Bits.{bitXor}
 use lib.ListN.{getD, set}
 use Rattle.numbers.specs.Bits.{dot}
+use Rattle.numbers.specs.Sums.{list}
 use Rattle.circuit.specs.declared.Gate.{Gate}
-use Rattle.running.specs.Run.{stepped, added, cnots, score}
-use Rattle.running.specs.Masks.{Met, Mixed, Mask, masksAfter, met, sumMet}
+use Rattle.circuit.specs.declared.Gate.the-variants.{Cnot, Phase, Inverter}
+use Rattle.running.specs.Run.{stepped, added, cnots, score, inverters}
+
+-- the numbers before the first gate, and the masks alone
+abbrev pub ownNumbers : ℕ → List ℕ
+ownNumbers w = list w (λ i. 2 ^ suc i)
+
+abbrev pub ownMasks : ℕ → List ℕ
+ownMasks w = list w (λ i. 2 ^ i)
+
+-- a CNOT mixes two numbers; an inverter is one from a wire that no file names and that always holds 1
+abbrev pub numbersAfter : Gate → List ℕ → List ℕ
+numbersAfter (Cnot c t) ns = set ns t (bitXor (getD ns t 0) (getD ns c 0))
+numbersAfter (Phase i a) ns = ns
+numbersAfter (Inverter i) ns = set ns i (bitXor (getD ns i 0) 1)
+
+unfoldable pub numbersFrom : List Gate → List ℕ → List ℕ
+numbersFrom [] ns = ns
+numbersFrom (g ∷ gs) ns = numbersFrom gs (numbersAfter g ns)
+
+-- what a gate meets: nothing, or a number with an angle
+pub data Met : Type 0 where
+  Unmet : Met
+  At : ℕ → ℕ → Met
+
+abbrev pub met : Gate → List ℕ → Met
+met (Cnot c t) ns = Unmet
+met (Phase i a) ns = At (getD ns i 0) a
+met (Inverter i) ns = Unmet
+
+abbrev pub metBy : (ℕ → ℕ → ℕ) → Met → ℕ
+metBy f Unmet = 0
+metBy f (At n a) = f n a
+
+-- a sum over the phase gates, each by the number that it meets and its angle
+unfoldable pub sumNumbers : (ℕ → ℕ → ℕ) → List Gate → List ℕ → ℕ
+sumNumbers f [] ns = 0
+sumNumbers f (g ∷ gs) ns = metBy f (met g ns) + sumNumbers f gs (numbersAfter g ns)
+
+-- the start x with the bit of the wire that always holds 1
+abbrev pub startOf : ℕ → ℕ
+startOf x = 2 * x + 1
+
+-- the total from a start by numbers: each phase gate adds its angle where its number's parity is odd
+abbrev pub totalBy : List Gate → List ℕ → ℕ → ℕ
+totalBy gs ns x = sumNumbers (λ n a. a * dot n x) gs ns
 
 -- a run: the state and the phase so far
 abbrev pub runStep : Gate → ℕ × ℕ → ℕ × ℕ
 runStep g s = (stepped g (s .0), (s .1 + added g (s .0)) % 65536)
 
--- a count: the CNOTs and the score so far
-abbrev pub countStep : Gate → ℕ × ℕ → ℕ × ℕ
-countStep g s = (s .0 + cnots (g ∷ []), s .1 + score (g ∷ []))
+-- a count: the CNOTs, the score and the inverters so far
+abbrev pub countStep : Gate → ℕ × ℕ × ℕ → ℕ × ℕ × ℕ
+countStep g s = (s .0 + cnots (g ∷ []), s .1 + score (g ∷ []), s .2 + inverters (g ∷ []))
 
--- a phase gate's angle added, wrapping, at the mask that it meets
+-- a phase gate's angle added, wrapping, at the number that it meets
 abbrev pub addMet : Met → List ℕ → List ℕ
-addMet Mixed row = row
-addMet (Mask m a) row = set row m ((getD row m 0 + a) % 65536)
+addMet Unmet row = row
+addMet (At n a) row = set row n ((getD row n 0 + a) % 65536)
 
--- the sums at masks: the masks, and the totals so far
+-- the sums at numbers: the numbers, and the totals so far
 abbrev pub sumStep : Gate → List ℕ × List ℕ → List ℕ × List ℕ
-sumStep g s = (masksAfter g (s .0), addMet (met g (s .0)) (s .1))
-
--- the total from start x by masks: each phase gate adds its angle where its mask's parity is odd
-abbrev pub totalBy : List Gate → List ℕ → ℕ → ℕ
-totalBy gs ms x = sumMet (λ m a. a * dot m x) gs ms
+sumStep g s = (numbersAfter g (s .0), addMet (met g (s .0)) (s .1))

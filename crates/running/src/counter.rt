@@ -8,7 +8,7 @@ ghost use mathlib.Core.List.{[], _∷_};
 ghost use Rattle.refusal.specs.Checks.{outcome, passed};
 ghost use Rattle.running.specs.declared.Counted.the-variants.{Gates};
 ghost use Rattle.circuit.specs.File.{countOf, gatesOf, fileChecks};
-ghost use Rattle.running.specs.Run.{freeTurn, scores, cnots, phases, score, Counts};
+ghost use Rattle.running.specs.Run.{freeTurn, scores, cnots, phases, score, inverters, Counts};
 
 // Multiples of this angle are free (02 §2): quarter and half turns.
 const FREE_TURN: u16 = 16384;
@@ -20,7 +20,7 @@ pub fn scored(angle: u16) -> u16
     if angle % FREE_TURN == 0 { 0 } else { 1 }
 }
 
-// A gate's own count of CNOTs, and its own score.
+// A gate's own count of CNOTs, its own score, and its own count of inverters.
 fn one_cnot(gate: Gate) -> u16
     ensures { λ r. ⌜ r ≡ cnots (gate ∷ []) ⌝ }
 {
@@ -30,6 +30,7 @@ fn one_cnot(gate: Gate) -> u16
             target: _,
         } => 1,
         Gate::Phase { wire: _, angle: _ } => 0,
+        Gate::Inverter { wire: _ } => 0,
     }
 }
 
@@ -42,32 +43,49 @@ fn one_scored(gate: Gate) -> u16
             target: _,
         } => 0,
         Gate::Phase { wire: _, angle } => scored(angle),
+        Gate::Inverter { wire: _ } => 0,
+    }
+}
+
+fn one_inverter(gate: Gate) -> u16
+    ensures { λ r. ⌜ r ≡ inverters (gate ∷ []) ⌝ }
+{
+    match gate {
+        Gate::Cnot {
+            control: _,
+            target: _,
+        } => 0,
+        Gate::Phase { wire: _, angle: _ } => 0,
+        Gate::Inverter { wire: _ } => 1,
     }
 }
 
 // The counts of a good file's gates.
 fn count_gates(file: &[u8], gates: usize) -> Counted
     requires { ⌜ (outcome (fileChecks 0 (now file)) ≡ passed) × (gates ≡ countOf (now file)) ⌝ }
-    ensures { λ r. ⌜ r ≡ Gates (cnots (gatesOf (now (file .entry)))) (phases (gatesOf (now (file .entry)))) (score (gatesOf (now (file .entry)))) ⌝ }
+    ensures { λ r. ⌜ r ≡ Gates (cnots (gatesOf (now (file .entry)))) (phases (gatesOf (now (file .entry)))) (score (gatesOf (now (file .entry)))) (inverters (gatesOf (now (file .entry)))) ⌝ }
 {
     let mut cnots: u16 = 0;
     let mut score: u16 = 0;
+    let mut inverters: u16 = 0;
     let mut i: usize = 0;
     while i < gates {
         let gate = circuit::good_gate(file, i);
         cnots += one_cnot(gate);
         score += one_scored(gate);
+        inverters += one_inverter(gate);
         i += 1;
     }
-    let phases = gates - (cnots as usize);
+    let phases = gates - ((cnots + inverters) as usize);
     Counted::Gates {
         cnots: cnots as usize,
         phases,
         score: score as usize,
+        inverters: inverters as usize,
     }
 }
 
-// The CNOTs, the phase gates and the score of a file, or a refusal.
+// The CNOTs, the phase gates, the score and the inverters of a file, or a refusal.
 pub fn count(file: &[u8]) -> Counted
     ensures { λ r. ⌜ Counts (now (file .entry)) r ⌝ }
 {

@@ -1,4 +1,4 @@
-// Document 01, "Running, counting, folding": runs, counts, the masks that the wires hold, and the groups that met them.
+// Document 01, "Running, counting, folding": runs, counts, the masks and flips that the wires hold, and the groups that met them.
 use refusal::Refusal;
 
 mod counter;
@@ -10,15 +10,19 @@ pub use counter::count;
 pub use counter::scored;
 pub use grouper::sum_groups;
 pub use runner::run;
-pub use walker::mask_at;
+pub use walker::held_at;
+pub use walker::invert;
 pub use walker::mix;
-pub use walker::own_masks;
+pub use walker::own_held;
 
 // The most wires that a circuit has.
 pub const WIRES: usize = 10;
 
 // As many masks as that many wires can hold: 2^10.
 pub const MASKS: usize = 1024;
+
+// As many groups: a mask with a flip or without (02 §12).
+pub const GROUPS: usize = 2048;
 
 // A run's answer.
 pub enum Ran {
@@ -32,6 +36,7 @@ pub enum Counted {
         cnots: usize,
         phases: usize,
         score: usize,
+        inverters: usize,
     },
     Refused(Refusal),
 }

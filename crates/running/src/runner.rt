@@ -29,6 +29,7 @@ fn step(gate: Gate, state: u16) -> u16
     match gate {
         Gate::Cnot { control, target } => state ^ (bit_of(state, control) << target),
         Gate::Phase { wire: _, angle: _ } => state,
+        Gate::Inverter { wire } => state ^ (1 << wire),
     }
 }
 
@@ -43,6 +44,7 @@ fn turn(gate: Gate, state: u16) -> u16
             target: _,
         } => 0,
         Gate::Phase { wire, angle } => angle * bit_of(state, wire),
+        Gate::Inverter { wire: _ } => 0,
     }
 }
 

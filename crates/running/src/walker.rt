@@ -1,32 +1,43 @@
-// What each wire holds, gate by gate.
+// What each wire holds, gate by gate: twice its mask, and its flip.
 use crate::WIRES;
 ghost use mathlib.Core.Path.{_≡_};
 ghost use lib.ListN.{getD};
-ghost use Rattle.circuit.specs.declared.Gate.the-variants.{Cnot};
-ghost use Rattle.running.specs.Masks.{mostWires, ownMasks, masksAfter};
+ghost use Rattle.circuit.specs.declared.Gate.the-variants.{Cnot, Inverter};
+ghost use Rattle.running.specs.Masks.{mostWires};
+ghost use Rattle.running.specs.Working.{ownNumbers, numbersAfter};
 
-// The masks before the first gate: wire i holds 2^i.
-pub fn own_masks() -> [u16; WIRES]
-    ensures { λ r. ⌜ r ≡ ownMasks mostWires ⌝ }
+// Before the first gate wire i holds the mask 2^i, and no flip.
+pub fn own_held() -> [u16; WIRES]
+    ensures { λ r. ⌜ r ≡ ownNumbers mostWires ⌝ }
 {
-    [1, 2, 4, 8, 16, 32, 64, 128, 256, 512]
+    [2, 4, 8, 16, 32, 64, 128, 256, 512, 1024]
 }
 
-// The mask of a wire; nothing where there is no such wire.
-pub fn mask_at(masks: &[u16], wire: u8) -> u16
-    ensures { λ r. ⌜ r ≡ getD (now (masks .entry)) wire 0 ⌝ }
+// What a wire holds; nothing where there is no such wire.
+pub fn held_at(held: &[u16], wire: u8) -> u16
+    ensures { λ r. ⌜ r ≡ getD (now (held .entry)) wire 0 ⌝ }
 {
     let i = wire as usize;
-    if i < masks.len() { masks[i] } else { 0 }
+    if i < held.len() { held[i] } else { 0 }
 }
 
-// A CNOT mixes two masks.
-pub fn mix(masks: &mut [u16], control: u8, target: u8)
-    ensures { λ _. ⌜ now (masks .exit) ≡ masksAfter (Cnot control target) (now (masks .entry)) ⌝ }
+// A CNOT mixes what two wires hold.
+pub fn mix(held: &mut [u16], control: u8, target: u8)
+    ensures { λ _. ⌜ now (held .exit) ≡ numbersAfter (Cnot control target) (now (held .entry)) ⌝ }
 {
-    let mask = mask_at(masks, control);
+    let mixed = held_at(held, control);
     let i = target as usize;
-    if i < masks.len() {
-        masks[i] = masks[i] ^ mask;
+    if i < held.len() {
+        held[i] = held[i] ^ mixed;
+    }
+}
+
+// An inverter turns its wire's flip.
+pub fn invert(held: &mut [u16], wire: u8)
+    ensures { λ _. ⌜ now (held .exit) ≡ numbersAfter (Inverter wire) (now (held .entry)) ⌝ }
+{
+    let i = wire as usize;
+    if i < held.len() {
+        held[i] = held[i] ^ 1;
     }
 }

@@ -1,7 +1,7 @@
 use mathlib.Core.List.{[], _∷_}
 use Rattle.refusal.specs.Checks.{outcome}
 use Rattle.circuit.specs.File.{gatesOf, fileChecks}
-use Rattle.running.specs.Run.{cnots, phases, score}
+use Rattle.running.specs.Run.{cnots, phases, score, inverters}
 use Rattle.circuit.proofs.Callers.{read-answers, read-refuses}
 use Rattle.refusal.proofs.Contracts.{said-refused}
 use Rattle.running.proofs.Answers.{counted-gates}
@@ -31,7 +31,7 @@ returns c =
     let found = c .before in
     let got = found .before .before in
     let f = got .before .before .args .file .now in
-    said-refused (outcome (fileChecks 0 f)) (cnots (gatesOf f) ∷ phases (gatesOf f) ∷ score (gatesOf f) ∷ []) (found .refusal .given .0 .0)
+    said-refused (outcome (fileChecks 0 f)) (cnots (gatesOf f) ∷ phases (gatesOf f) ∷ score (gatesOf f) ∷ inverters (gatesOf f) ∷ []) (found .refusal .given .0 .0)
     (read-refuses 0 f (got .read .result) (got .read .ensures) (found .refusal .given .0 .0) (found .refusal .given .1))
 
 returns-2 : tie.Need-returns-2

@@ -12,10 +12,10 @@ use Rattle.running.proofs.counter.count_gates.Statement.{statement}
 use Rattle.running.proofs.counter.count_gates.Tie as tie
 
 abbrev Inv-loop : tie.InvT-loop
-Inv-loop file gates cnots₀ score₀ i₀ cnots score i = Walk countStep file (0, 0) (cnots, score) i × (cnots + score ≤ i)
+Inv-loop file gates cnots₀ score₀ inverters₀ i₀ cnots score inverters i = Walk countStep file (0, 0, 0) (cnots, score, inverters) i × (cnots + score + inverters ≤ i)
 
 abbrev μ-loop : tie.MeasureT-loop
-μ-loop file gates cnots₀ score₀ i₀ cnots score i = gates - i
+μ-loop file gates cnots₀ score₀ inverters₀ i₀ cnots score inverters i = gates - i
 
 abbrev start : tie.At-loop Inv-loop μ-loop → tie.Start Inv-loop μ-loop
 start c = c .before .before
@@ -30,7 +30,7 @@ good : (c : tie.At-loop Inv-loop μ-loop) → GoodFile (start c .args .file .now
 good c = good-file 0 (start c .args .file .now) (start c .pre .0)
 
 loop-holds : tie.Need-loop-holds Inv-loop μ-loop
-loop-holds c = (walk-starts countStep (c .before .args .file .now) (0, 0), omega arith)
+loop-holds c = (walk-starts countStep (c .before .args .file .now) (0, 0, 0), omega arith)
 
 good-gate-requires : tie.Need-good-gate-requires Inv-loop μ-loop
 good-gate-requires c κs = search needs
@@ -52,6 +52,15 @@ add-score c =
     let at = loop taken in
     omega (arith, at .loop .inv .1, good at .count, start at .pre .1, one-counted (taken .good-gate .result), c .one-scored .ensures)
 
+one-inverter-requires : tie.Need-one-inverter-requires Inv-loop μ-loop
+one-inverter-requires c κs = search needs
+
+add-inverters : tie.Need-add-inverters Inv-loop μ-loop
+add-inverters c =
+    let taken = c .before .before .before in
+    let at = loop taken in
+    omega (arith, at .loop .inv .1, good at .count, start at .pre .1, one-counted (taken .good-gate .result), c .one-inverter .ensures)
+
 add-i : tie.Need-add-i Inv-loop μ-loop
 add-i c = omega arith
 
@@ -60,16 +69,21 @@ loop-less c = omega arith
 
 loop-again : tie.Need-loop-again Inv-loop μ-loop
 loop-again c =
-    let taken = c .before .before in
+    let scored = c .before in
+    let taken = scored .before .before in
     let at = loop taken in
     let a = start at .args in
     let g = taken .good-gate .result in
-    let x = c .before .one-cnot in
-    let y = c .one-scored in (
-      walk-goes-on (a .file .now) (bytes at) (good at) (at .loop .i) g (omega (arith, start at .pre .1)) (taken .good-gate .ensures) countStep (0, 0) (at .loop .cnots, at .loop .score) (at .loop .cnots + x .result, at .loop .score + y .result)
-          (count-stepped g (at .loop .cnots) (at .loop .score) (x .result) (y .result) (x .ensures) (y .ensures)) (at .loop .inv .0),
-      omega (arith, at .loop .inv .1, one-counted g, x .ensures, y .ensures),
+    let x = scored .before .one-cnot in
+    let y = scored .one-scored in
+    let z = c .one-inverter in (
+      walk-goes-on (a .file .now) (bytes at) (good at) (at .loop .i) g (omega (arith, start at .pre .1)) (taken .good-gate .ensures) countStep (0, 0, 0) (at .loop .cnots, at .loop .score, at .loop .inverters) (at .loop .cnots + x .result, at .loop .score + y .result, at .loop .inverters + z .result)
+          (count-stepped g (at .loop .cnots) (at .loop .score) (at .loop .inverters) (x .result) (y .result) (z .result) (x .ensures) (y .ensures) (z .ensures)) (at .loop .inv .0),
+      omega (arith, at .loop .inv .1, one-counted g, x .ensures, y .ensures, z .ensures),
     )
+
+add-phases : tie.Need-add-phases Inv-loop μ-loop
+add-phases c = let at = c .before in omega (arith, at .loop .inv .1, at .loop .inv .0 .within, good at .count)
 
 cast-phases : tie.Need-cast-phases Inv-loop μ-loop
 cast-phases c = search needs
@@ -77,17 +91,20 @@ cast-phases c = search needs
 sub-phases : tie.Need-sub-phases Inv-loop μ-loop
 sub-phases c = omega (arith, c .before .loop .inv .1, c .before .loop .inv .0 .within, start (c .before) .pre .1)
 
-cast-t10 : tie.Need-cast-t10 Inv-loop μ-loop
-cast-t10 c = search needs
+cast-t12 : tie.Need-cast-t12 Inv-loop μ-loop
+cast-t12 c = search needs
 
-cast-t11 : tie.Need-cast-t11 Inv-loop μ-loop
-cast-t11 c = search needs
+cast-t13 : tie.Need-cast-t13 Inv-loop μ-loop
+cast-t13 c = search needs
+
+cast-t14 : tie.Need-cast-t14 Inv-loop μ-loop
+cast-t14 c = search needs
 
 returns : tie.Need-returns Inv-loop μ-loop
 returns c =
     let at = c .before in
     let a = start at .args in
-    count-ends (a .file .now) (bytes at) (good at) (at .loop .i) (omega (arith, start at .pre .1)) (a .gates) (at .loop .cnots) (at .loop .score) (start at .pre .1) (at .loop .inv .0)
+    count-ends (a .file .now) (bytes at) (good at) (at .loop .i) (omega (arith, start at .pre .1)) (a .gates) (at .loop .cnots) (at .loop .score) (at .loop .inverters) (start at .pre .1) (at .loop .inv .0)
 
 pub count-gates-spec : {M : Type 1} → statement M
 count-gates-spec =
@@ -101,11 +118,15 @@ count-gates-spec =
     add-cnots
     one-scored-requires
     add-score
+    one-inverter-requires
+    add-inverters
     add-i
     loop-less
     loop-again
+    add-phases
     cast-phases
     sub-phases
-    cast-t10
-    cast-t11
+    cast-t12
+    cast-t13
+    cast-t14
     returns)

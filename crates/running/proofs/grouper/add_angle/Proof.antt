@@ -30,12 +30,12 @@ same-length c = search needs
 returns : tie.Need-returns
 returns c =
     let a = start c .args in
-    ap (set (a .totals .now) (a .mask)) (c .wrapping-add-u16 .ensures)
+    ap (set (a .totals .now) (a .group)) (c .wrapping-add-u16 .ensures)
 
 returns-2 : tie.Need-returns-2
 returns-2 c =
     let a = c .before .before .args in
-    sym (set-out (a .totals .now) (a .mask) ((getD (a .totals .now) (a .mask) 0 + a .angle) % 65536) (c .if1 .left))
+    sym (set-out (a .totals .now) (a .group) ((getD (a .totals .now) (a .group) 0 + a .angle) % 65536) (c .if1 .left))
 
 pub add-angle-spec : {M : Type 1} → statement M
 add-angle-spec =

@@ -1,4 +1,4 @@
-use Rattle.running.proofs.Stepping.{mixed-adds, mask-adds}
+use Rattle.running.proofs.Stepping.{cnot-adds, phase-adds, inverter-adds}
 use borrow.Author.Needs.{needs}
 use Rattle.running.proofs.grouper.add_gate.Statement.{statement}
 use Rattle.running.proofs.grouper.add_gate.Tie as tie
@@ -6,7 +6,10 @@ use Rattle.running.proofs.grouper.add_gate.Tie as tie
 abbrev crossing : tie.After-mix → tie.Start
 crossing c = c .before .before .before .before .before .before .before
 
-abbrev phase : tie.After-mask-at → tie.After-gate2
+abbrev turning : tie.After-invert → tie.Start
+turning c = c .before .before .before .before .before .before .before
+
+abbrev phase : tie.After-held-at → tie.After-gate2
 phase c = c .before .before .before
 
 abbrev meeting : tie.After-gate2 → tie.Start
@@ -21,11 +24,17 @@ mix-requires c κs = search needs
 enum-known-gate-2 : tie.Need-enum-known-gate-2
 enum-known-gate-2 c = search needs
 
-mask-at-requires : tie.Need-mask-at-requires
-mask-at-requires c κs = search needs
+held-at-requires : tie.Need-held-at-requires
+held-at-requires c κs = search needs
 
 add-angle-requires : tie.Need-add-angle-requires
 add-angle-requires c κs = search needs
+
+enum-known-gate-3 : tie.Need-enum-known-gate-3
+enum-known-gate-3 c = search needs
+
+invert-requires : tie.Need-invert-requires
+invert-requires c κs = search needs
 
 same-length : tie.Need-same-length
 same-length c = search needs
@@ -35,7 +44,7 @@ returns c =
     let done = c .before .before in
     let a = crossing done .args in
     let v = done .before .before .before .gate .given in
-    mixed-adds (a .gate) (a .masks .now) (a .totals .now) (v .0 .0) (v .0 .1 .0) (done .mix .last .0) (v .1) (done .mix .ensures)
+    cnot-adds (a .gate) (a .held .now) (a .totals .now) (v .0 .0) (v .0 .1 .0) (done .mix .last .0) (v .1) (done .mix .ensures)
 
 same-length-2 : tie.Need-same-length-2
 same-length-2 c = search needs
@@ -50,7 +59,17 @@ returns-2 c =
     let told = phase found in
     let a = meeting told .args in
     let v = told .gate2 .given in
-    mask-adds (a .gate) (a .masks .now) (a .totals .now) (v .0 .0) (v .0 .1 .0) (found .mask-at .result) (done .add-angle .last .0) (v .1) (found .mask-at .ensures) (done .add-angle .ensures)
+    phase-adds (a .gate) (a .held .now) (a .totals .now) (v .0 .0) (v .0 .1 .0) (found .held-at .result) (done .add-angle .last .0) (v .1) (found .held-at .ensures) (done .add-angle .ensures)
+
+same-length-4 : tie.Need-same-length-4
+same-length-4 c = search needs
+
+returns-3 : tie.Need-returns-3
+returns-3 c =
+    let done = c .before .before in
+    let a = turning done .args in
+    let v = done .before .before .before .gate3 .given in
+    inverter-adds (a .gate) (a .held .now) (a .totals .now) (v .0 .0) (done .invert .last .0) (v .1) (done .invert .ensures)
 
 pub add-gate-spec : {M : Type 1} → statement M
 add-gate-spec =
@@ -59,10 +78,14 @@ add-gate-spec =
     enum-known-gate
     mix-requires
     enum-known-gate-2
-    mask-at-requires
+    held-at-requires
     add-angle-requires
+    enum-known-gate-3
+    invert-requires
     same-length
     returns
     same-length-2
     same-length-3
-    returns-2)
+    returns-2
+    same-length-4
+    returns-3)

@@ -6,18 +6,17 @@ use lib.ListN.{length}
 use Rattle.circuit.specs.Bytes.{Bytes}
 use Rattle.circuit.proofs.Callers.{GoodFile, good-file}
 use Rattle.circuit.proofs.Walks.{Walk, walk-starts, walk-goes-on, walk-ends}
-use Rattle.running.specs.Masks.{met}
-use Rattle.running.specs.Working.{sumStep}
+use Rattle.running.specs.Working.{met, sumStep}
 use Rattle.running.proofs.Masks.{length-after}
 use Rattle.running.proofs.Stepping.{length-added, sum-stepped}
 use Rattle.running.proofs.grouper.add_gates.Statement.{statement}
 use Rattle.running.proofs.grouper.add_gates.Tie as tie
 
 abbrev Inv-loop : tie.InvT-loop
-Inv-loop file gates masks₀ totals₀ i₀ masks totals i = Walk sumStep file (masks₀, totals₀) (masks, totals) i × (length masks ≡ length masks₀) × (length totals ≡ length totals₀)
+Inv-loop file gates held₀ totals₀ i₀ held totals i = Walk sumStep file (held₀, totals₀) (held, totals) i × (length held ≡ length held₀) × (length totals ≡ length totals₀)
 
 abbrev μ-loop : tie.MeasureT-loop
-μ-loop file gates masks₀ totals₀ i₀ masks totals i = gates - i
+μ-loop file gates held₀ totals₀ i₀ held totals i = gates - i
 
 abbrev start : tie.At-loop Inv-loop μ-loop → tie.Start Inv-loop μ-loop
 start c = c .before .before .before .before
@@ -38,7 +37,7 @@ good : (c : tie.At-loop Inv-loop μ-loop) → GoodFile (start c .args .file .now
 good c = good-file 0 (start c .args .file .now) (start c .pre .0)
 
 loop-holds : tie.Need-loop-holds Inv-loop μ-loop
-loop-holds c = let a = c .before .before .before .args in (walk-starts sumStep (a .file .now) (a .masks .now, a .totals .now), refl, refl)
+loop-holds c = let a = c .before .before .before .args in (walk-starts sumStep (a .file .now) (a .held .now, a .totals .now), refl, refl)
 
 good-gate-requires : tie.Need-good-gate-requires Inv-loop μ-loop
 good-gate-requires c κs = search needs
@@ -59,13 +58,13 @@ loop-again c =
     let at = loop got in
     let a = start at .args in
     let g = got .good-gate .result in
-    let masks = add .add-gate .last .1 .0 in
+    let held = add .add-gate .last .1 .0 in
     let totals = add .add-gate .last .1 .1 .0 in
     let e = add .add-gate .ensures in (
-      walk-goes-on (a .file .now) (bytes at) (good at) (at .loop .i) g (omega (arith, start at .pre .1)) (got .good-gate .ensures) sumStep (a .masks .now, a .totals .now) (at .loop .masks, at .loop .totals) (masks, totals)
-          (sum-stepped g (at .loop .masks) (at .loop .totals) masks totals (e .0) (e .1)) (at .loop .inv .0),
-      ap length (e .0) ∙ length-after g (at .loop .masks) ∙ at .loop .inv .1,
-      ap length (e .1) ∙ length-added (met g (at .loop .masks)) (at .loop .totals) ∙ at .loop .inv .2,
+      walk-goes-on (a .file .now) (bytes at) (good at) (at .loop .i) g (omega (arith, start at .pre .1)) (got .good-gate .ensures) sumStep (a .held .now, a .totals .now) (at .loop .held, at .loop .totals) (held, totals)
+          (sum-stepped g (at .loop .held) (at .loop .totals) held totals (e .0) (e .1)) (at .loop .inv .0),
+      ap length (e .0) ∙ length-after g (at .loop .held) ∙ at .loop .inv .1,
+      ap length (e .1) ∙ length-added (met g (at .loop .held)) (at .loop .totals) ∙ at .loop .inv .2,
     )
 
 same-length : tie.Need-same-length Inv-loop μ-loop
@@ -78,7 +77,7 @@ returns : tie.Need-returns Inv-loop μ-loop
 returns c =
     let at = c .before in
     let a = start at .args in
-    walk-ends (a .file .now) (bytes at) (good at) (at .loop .i) (omega (arith, start at .pre .1)) sumStep (a .masks .now, a .totals .now) (at .loop .masks, at .loop .totals) (at .loop .inv .0)
+    walk-ends (a .file .now) (bytes at) (good at) (at .loop .i) (omega (arith, start at .pre .1)) sumStep (a .held .now, a .totals .now) (at .loop .held, at .loop .totals) (at .loop .inv .0)
 
 pub add-gates-spec : {M : Type 1} → statement M
 add-gates-spec =

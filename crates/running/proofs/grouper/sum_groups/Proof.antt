@@ -19,8 +19,8 @@ read-side-requires c κs = search needs
 enum-known-reading : tie.Need-enum-known-reading
 enum-known-reading c = search needs
 
-own-masks-requires : tie.Need-own-masks-requires
-own-masks-requires c κs = search needs
+own-held-requires : tie.Need-own-held-requires
+own-held-requires c κs = search needs
 
 slice-aggregate-add-gates : tie.Need-slice-aggregate-add-gates
 slice-aggregate-add-gates c = search needs
@@ -46,15 +46,15 @@ returns c =
     let got = read (found lent) in
     let a = start got .args in
     let v = found lent .reading .given in
-    let own = lent .before .before .own-masks in
+    let own = lent .before .before .own-held in
     let gave = done .add-gates in
-    groups-summed (a .side) (a .file .now) (a .totals .now) (a .masks .now) (got .read-side .result) (got .read-side .ensures) (v .0 .0) (v .0 .1 .0) (own .result) (gave .last .1 .1 .0) (gave .last .1 .1 .1 .0) (v .1) (λ j. got .before .shared-slice-known .given j .fits) (own .ensures) (gave .ensures)
+    groups-summed (a .side) (a .file .now) (a .totals .now) (a .held .now) (got .read-side .result) (got .read-side .ensures) (v .0 .0) (v .0 .1 .0) (own .result) (gave .last .1 .1 .0) (gave .last .1 .1 .1 .0) (v .1) (λ j. got .before .shared-slice-known .given j .fits) (own .ensures) (gave .ensures)
 
 returns-2 : tie.Need-returns-2
 returns-2 c =
     let got = c .before .before in
     let a = start got .args in
-    groups-refused (a .side) (a .file .now) (a .totals .now) (a .masks .now) (got .read-side .result) (got .read-side .ensures) (c .enum-told .given .0 .0) (c .enum-told .given .1)
+    groups-refused (a .side) (a .file .now) (a .totals .now) (a .held .now) (got .read-side .result) (got .read-side .ensures) (c .enum-told .given .0 .0) (c .enum-told .given .1)
 
 pub sum-groups-spec : {M : Type 1} → statement M
 sum-groups-spec =
@@ -62,7 +62,7 @@ sum-groups-spec =
     (tie.spec
     read-side-requires
     enum-known-reading
-    own-masks-requires
+    own-held-requires
     slice-aggregate-add-gates
     slice-aggregate-add-gates-2
     add-gates-requires

@@ -5,7 +5,7 @@ use Rattle.circuit.specs.Bytes.{Bytes}
 use Rattle.circuit.specs.Working.{Sound}
 use Rattle.circuit.proofs.Callers.{GoodFile, good-file}
 use Rattle.circuit.proofs.Walks.{Walk, walk-starts, next-sound, walk-goes-on}
-use Rattle.running.specs.Working.{runStep}
+use Rattle.running.specs.Working.{met, runStep}
 use Rattle.running.proofs.Stepping.{run-stepped}
 use Rattle.running.proofs.Loops.{run-ends}
 use Rattle.running.proofs.runner.run_gates.Statement.{statement}

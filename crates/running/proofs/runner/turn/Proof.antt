@@ -23,6 +23,9 @@ mul-result c =
     let s = subst (Sound 10) (c .before .before .gate .given .1) (start c .pre) in
     omega (arith, s .1, bit-times (c .before .before .gate .given .0 .1 .0) (c .bit-of .result) (omega (arith, c .bit-of .ensures)))
 
+enum-told-2 : tie.Need-enum-told-2
+enum-told-2 c = search needs
+
 returns : tie.Need-returns
 returns c = search needs
 
@@ -31,6 +34,18 @@ returns-2 c =
     let v = c .before .before .gate .given in
     phase-turns (start c .args .gate) (start c .args .state) (c .bit-of .result) (start c .pre) (v .0 .0) (v .0 .1 .0) (v .1) (c .bit-of .ensures)
 
+returns-3 : tie.Need-returns-3
+returns-3 c = search needs
+
 pub turn-spec : {M : Type 1} → statement M
 turn-spec =
-    tie.close (tie.spec enum-told enum-known-gate bit-of-requires mul-result returns returns-2)
+    tie.close
+    (tie.spec
+    enum-told
+    enum-known-gate
+    bit-of-requires
+    mul-result
+    enum-told-2
+    returns
+    returns-2
+    returns-3)
