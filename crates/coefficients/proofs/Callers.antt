@@ -18,7 +18,7 @@ use Rattle.circuit.specs.declared.Reading.{Reading}
 use Rattle.circuit.specs.declared.Reading.the-variants.{Circuit, Refused as BadFile}
 use Rattle.circuit.specs.Bytes.{putAt}
 use Rattle.circuit.specs.File.{wiresOf, countOf, gatesOf, fileChecks, readingSays}
-use Rattle.coefficients.specs.Coefficients.{coefficients, singleEnds, idealCoefficients, idealEnds}
+use Rattle.coefficients.specs.Coefficients.{coefficients, listedEnds, idealCoefficients, idealEnds}
 use Rattle.coefficients.specs.Summaries.{SumsUp, Summarises, SummarisesIdeal}
 
 -- every check passed, and both slices hold what they are lent for, where it fits
@@ -55,13 +55,13 @@ module _ (side : ℕ) (f row₀ ends₀ : List ℕ) (answer : Reading) (row₁ e
   abbrev said : List ℕ
   said = wiresOf f ∷ countOf f ∷ []
 
-  pub summarise-answers : (w g : ℕ) → answer ≡ Circuit w g → Summed fileOutcome (coefficients (wiresOf f) (gatesOf f)) (singleEnds (wiresOf f) (gatesOf f)) row₀ ends₀ row₁ ends₁ × (w ≡ wiresOf f) × (g ≡ countOf f)
+  pub summarise-answers : (w g : ℕ) → answer ≡ Circuit w g → Summed fileOutcome (coefficients (wiresOf f) (gatesOf f)) (listedEnds (wiresOf f) (gatesOf f)) row₀ ends₀ row₁ ends₁ × (w ≡ wiresOf f) × (g ≡ countOf f)
   summarise-answers w g e =
-      let r = answers readingSays fileOutcome said (coefficients (wiresOf f) (gatesOf f)) (singleEnds (wiresOf f) (gatesOf f)) row₀ ends₀ answer row₁ ends₁ s (w ∷ g ∷ []) (ap readingSays e) in
+      let r = answers readingSays fileOutcome said (coefficients (wiresOf f) (gatesOf f)) (listedEnds (wiresOf f) (gatesOf f)) row₀ ends₀ answer row₁ ends₁ s (w ∷ g ∷ []) (ap readingSays e) in
       (r .0, cc (r .1), cc (r .1))
 
   pub summarise-refuses : (r : Refusal) → answer ≡ BadFile r → Unsummed fileOutcome r row₀ ends₀ row₁ ends₁
-  summarise-refuses r e = refuses readingSays fileOutcome said (coefficients (wiresOf f) (gatesOf f)) (singleEnds (wiresOf f) (gatesOf f)) row₀ ends₀ answer row₁ ends₁ s r (ap readingSays e)
+  summarise-refuses r e = refuses readingSays fileOutcome said (coefficients (wiresOf f) (gatesOf f)) (listedEnds (wiresOf f) (gatesOf f)) row₀ ends₀ answer row₁ ends₁ s r (ap readingSays e)
 
 module _ (n : ℕ) (t row₀ ends₀ : List ℕ) (answer : Checked) (row₁ ends₁ : List ℕ) (s : SummarisesIdeal n t row₀ ends₀ answer row₁ ends₁) where
   abbrev tableOutcome : Outcome

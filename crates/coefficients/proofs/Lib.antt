@@ -11,3 +11,4 @@ mod Summaries
 mod Turning
 mod Answers
 pub mod Callers
+mod Constants

@@ -15,9 +15,9 @@ use Rattle.numbers.proofs.Sums.{sumOf-ext}
 use Rattle.numbers.proofs.Lists.{length-list, getD-list, is-list, list-ext, list-split}
 use Rattle.numbers.proofs.Subsets.{sum-scale}
 use Rattle.table.specs.Table.{valueAt}
-use Rattle.running.specs.Masks.{mostWires, mostMasks, ownMasks}
+use Rattle.running.specs.Masks.{mostMasks}
 use Rattle.running.proofs.Masks.{zeros}
-use Rattle.coefficients.specs.Coefficients.{idealCoefficient, idealCoefficients}
+use Rattle.coefficients.specs.Coefficients.{listedStart, idealCoefficient, idealCoefficients}
 use Rattle.coefficients.specs.Working.{entry, gathered}
 use Rattle.coefficients.proofs.Ideals.{below-mark, with-mark}
 
@@ -71,8 +71,8 @@ module _ (n half : ℕ) (h : half ≡ 2 ^ n) (f : ℕ → ℕ) (row upper : List
       ap (take (half + half)) apart ∙ take-at (take half row ++ upper) (postOf half (half + half - half) row) (half + half) both-long ∙ ap₂ _++_ lower e
       ∙ sym (ap (λ (m : ℕ). list (2 ^ m) (idealCoefficient n f)) (add-one n) ∙ ap (λ (m : ℕ). list m (idealCoefficient n f)) (two-pow-succ n) ∙ list-split (2 ^ n) (2 ^ n) (idealCoefficient n f))
 
--- "ends as it starts": the single-wire states, which are also the masks before the first gate
-pub some-powers : (held : List ℕ) (m : ℕ) → held ≡ ownMasks mostWires → m ≤ mostWires → take m held ≡ list m (λ i. 2 ^ i)
-some-powers held m e h =
-    is-list 0 (take m held) m (λ i. 2 ^ i) (length-take-le m held (omega (arith, ap length e)))
-    (λ i k. getD-take m held i 0 k ∙ ap (λ (l : List ℕ). entry l i) e ∙ getD-list mostWires (λ j. 2 ^ j) i 0 (omega arith))
+-- "ends as it starts": the first of the listed starts
+pub some-starts : (starts : List ℕ) (m : ℕ) → starts ≡ list 11 listedStart → m ≤ 11 → take m starts ≡ list m listedStart
+some-starts starts m e h =
+    is-list 0 (take m starts) m listedStart (length-take-le m starts (omega (arith, ap length e)))
+    (λ i k. getD-take m starts i 0 k ∙ ap (λ (l : List ℕ). entry l i) e ∙ getD-list 11 listedStart i 0 (omega arith))

@@ -9,7 +9,7 @@ use Rattle.table.specs.Table.{tableChecks, valueAt, checkedSays}
 use Rattle.circuit.specs.declared.Reading.{Reading}
 use Rattle.circuit.specs.Bytes.{putAt}
 use Rattle.circuit.specs.File.{wiresOf, countOf, gatesOf, fileChecks, readingSays}
-use Rattle.coefficients.specs.Coefficients.{coefficients, singleEnds, idealCoefficients, idealEnds}
+use Rattle.coefficients.specs.Coefficients.{coefficients, listedEnds, idealCoefficients, idealEnds}
 
 -- "Nothing lent is written" on a refusal; else the numbers stand at the front of the slice, where they fit
 abbrev pub Puts : Outcome → List ℕ → List ℕ → List ℕ → Type 0
@@ -24,7 +24,7 @@ pub record SumsUp {Answer : Type 0} (said : Answer → Said) (o : Outcome) (vs c
 -- the contract of summarise: the reader's answer, and the circuit's summary
 abbrev pub Summarises : ℕ → List ℕ → List ℕ → List ℕ → Reading → List ℕ → List ℕ → Type 0
 Summarises side f row₀ ends₀ answer row₁ ends₁ =
-    SumsUp readingSays (outcome (fileChecks side f)) (wiresOf f ∷ countOf f ∷ []) (coefficients (wiresOf f) (gatesOf f)) (singleEnds (wiresOf f) (gatesOf f))
+    SumsUp readingSays (outcome (fileChecks side f)) (wiresOf f ∷ countOf f ∷ []) (coefficients (wiresOf f) (gatesOf f)) (listedEnds (wiresOf f) (gatesOf f))
     row₀ ends₀ answer row₁ ends₁
 
 -- the contract of summarise_ideal: the table's check, and the ideal's summary

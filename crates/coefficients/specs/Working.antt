@@ -6,7 +6,9 @@ use mathlib.Core.Bool.{Bool, true, false}
 use mathlib.Core.List.{List, _++_}
 use lib.Count.{ones}
 use lib.ListN.{length, getD, take, drop}
+use lib.Bits.{bitXor}
 use Rattle.numbers.specs.Bits.{bit, subset}
+use Rattle.numbers.specs.Turn.{difference}
 use Rattle.numbers.specs.Sums.{sum, list}
 
 abbrev pub entry : List ℕ → ℕ → ℕ
@@ -46,9 +48,27 @@ weightOf (suc k) = 65534 ^ k
 abbrev pub weightAt : ℕ → ℕ
 weightAt s = weightOf (ones s) % 65536
 
-abbrev pub weighed : List ℕ → ℕ → ℕ
-weighed v s = weightOf (ones s) * entry v s % 65536
+-- the constant at the empty set, else a sum by the weight of its set
+abbrev pub weighedAt : ℕ → ℕ → ℕ → ℕ
+weighedAt constant zero x = constant
+weighedAt constant (suc s) x = weightOf (ones (suc s)) * x % 65536
 
--- bit i of each wire's mask: the end of the start 2^i
+abbrev pub weighed : ℕ → List ℕ → ℕ → ℕ
+weighed constant v s = weighedAt constant s (entry v s)
+
+-- of a row of groups' totals, mask by mask without and with the flip: what each mask has, those with the flip taken off
+abbrev pub signedAt : List ℕ → ℕ → ℕ
+signedAt totals m = difference (entry totals (m * 2)) (entry totals (m * 2 + 1))
+
+-- and all that has the flip
+abbrev pub flippedSum : ℕ → List ℕ → ℕ
+flippedSum size totals = sum size (λ m. entry totals (m * 2 + 1)) % 65536
+
+-- bit i of what each wire holds
 abbrev pub column : List ℕ → ℕ → ℕ
-column masks i = sum (length masks) (λ j. bit (entry masks j) i * 2 ^ j)
+column held i = sum (length held) (λ j. bit (entry held j) i * 2 ^ j)
+
+-- the end of the i-th listed start: the flips, and for a wire's own start the masks that contain it
+abbrev pub listedColumn : List ℕ → ℕ → ℕ
+listedColumn held zero = column held 0
+listedColumn held (suc i) = bitXor (column held (suc i)) (column held 0)

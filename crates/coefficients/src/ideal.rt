@@ -8,10 +8,10 @@ ghost use lib.ListN.{length};
 ghost use Rattle.numbers.specs.Sums.{list};
 ghost use Rattle.table.specs.Table.{valueAt};
 ghost use Rattle.circuit.specs.Bytes.{putAt};
-ghost use Rattle.coefficients.specs.Coefficients.{idealCoefficient};
+ghost use Rattle.coefficients.specs.Coefficients.{listedStart, idealCoefficient};
 ghost use Rattle.coefficients.specs.Summaries.{SummarisesIdeal};
 
-// The ideal's coefficients and the ends of its single-wire starts, each at the front of a slice where they fit, or the
+// The ideal's coefficients and the ends of its listed starts, each at the front of a slice where they fit, or the
 // refusal of the table. Below wire n's own set there are no coefficients, and the ideal ends as it starts.
 pub fn summarise_ideal(n: u8, table: &[u8], row: &mut [u16], ends: &mut [u16]) -> Checked
     ensures { λ r. ⌜ SummarisesIdeal n (now (table .entry)) (now (row .entry)) (now (ends .entry)) r (now (row .exit)) (now (ends .exit)) ⌝ }
@@ -24,9 +24,16 @@ pub fn summarise_ideal(n: u8, table: &[u8], row: &mut [u16], ends: &mut [u16]) -
     let mut ideal = empty();
     put_ideal(table, &mut ideal[half..size]);
     put(&ideal[..size], row);
-    let own = running::own_masks();
-    put(&own[..n as usize + 1], ends);
+    let starts = listed_starts();
+    put(&starts[..n as usize + 2], ends);
     Checked::Good
+}
+
+// Start 0, then each wire's own.
+fn listed_starts() -> [u16; 11]
+    ensures { λ r. ⌜ r ≡ list 11 listedStart ⌝ }
+{
+    [0, 1, 2, 4, 8, 16, 32, 64, 128, 256, 512]
 }
 
 // The coefficients of the sets with wire n: at each set the half turns of the sets that lie in it.

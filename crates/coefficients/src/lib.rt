@@ -1,5 +1,5 @@
 // Document 01, "Coefficients and verdict": one side summed up, a circuit or the ideal of a table. What it gives is the
-// side's coefficients, set by set, and where each wire's own start ends.
+// side's coefficients, set by set, and where the listed starts end: start 0, then each wire's own.
 ghost use mathlib.Core.Path.{_≡_};
 ghost use lib.ListN.{replicate};
 ghost use Rattle.running.specs.Masks.{mostMasks};
@@ -10,6 +10,9 @@ mod summary;
 
 // the ideal of a table summed up
 mod ideal;
+
+// the constant, and what is left on each mask
+mod flips;
 
 // sums over sets
 mod sums;

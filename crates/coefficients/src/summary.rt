@@ -1,71 +1,88 @@
 // A circuit summed up.
 use crate::empty;
+use crate::flips::constant_of;
+use crate::flips::unflip;
 use crate::sums::gather;
 use crate::weights::weigh;
 use circuit::Reading;
+use running::GROUPS;
 ghost use mathlib.Core.Path.{_≡_};
 ghost use mathlib.Core.Bool.{true};
-ghost use Prim.Native.Nat.{ℕ, _^_, _≤_, _<_};
+ghost use Prim.Native.Nat.{ℕ, _+_, _*_, _^_, _≤_, _<_};
 ghost use lib.ListN.{length};
 ghost use Rattle.numbers.specs.Sums.{list};
 ghost use Rattle.circuit.specs.Bytes.{putAt};
 ghost use Rattle.running.specs.Masks.{mostWires, mostMasks};
 ghost use Rattle.coefficients.specs.Summaries.{Summarises};
-ghost use Rattle.coefficients.specs.Working.{gathered, weighed, column};
+ghost use Rattle.coefficients.specs.Working.{gathered, weighed, signedAt, flippedSum, column, listedColumn};
 
-// A file's wires and gate count as the reader says them, its circuit's coefficients and the ends of its single-wire
-// starts, each at the front of a slice where they fit, or the refusal of the file.
+// A file's wires and gate count as the reader says them, its circuit's coefficients and the ends of its listed starts,
+// each at the front of a slice where they fit, or the refusal of the file.
 pub fn summarise(file: &[u8], side: u8, row: &mut [u16], ends: &mut [u16]) -> Reading
     ensures { λ r. ⌜ Summarises side (now (file .entry)) (now (row .entry)) (now (ends .entry)) r (now (row .exit)) (now (ends .exit)) ⌝ }
 {
-    let mut totals = empty();
-    let mut masks = running::own_masks();
-    match running::sum_groups(file, side, &mut totals, &mut masks) {
+    let mut totals = [0u16; GROUPS];
+    let mut held = running::own_held();
+    match running::sum_groups(file, side, &mut totals, &mut held) {
         Reading::Refused(refusal) => Reading::Refused(refusal),
         Reading::Circuit { wires, gates } => {
             let size = numbers::power(wires);
-            put_coefficients(&mut totals[..size], row);
-            put_ends(&masks[..wires as usize], ends);
+            let mut signed = empty();
+            put_coefficients(&totals[..size + size], &mut signed[..size], row);
+            put_ends(&held[..wires as usize], ends);
             Reading::Circuit { wires, gates }
         }
     }
 }
 
-// From the total at each mask to the coefficient of each set.
-fn put_coefficients(totals: &mut [u16], row: &mut [u16])
-    requires { ⌜ length (now totals) ≤ mostMasks ⌝ }
-    ensures { λ _. ⌜ ((n : ℕ) → length (now (totals .entry)) ≡ 2 ^ n → now (row .exit) ≡ putAt (list (2 ^ n) (weighed (gathered true n (now (totals .entry))))) 0 (now (row .entry))) ⌝ }
+// From the total of each group to the coefficient of each set; `signed` has a place for each mask.
+fn put_coefficients(totals: &[u16], signed: &mut [u16], row: &mut [u16])
+    requires { ⌜ (length (now totals) ≡ 2 * length (now signed)) × (length (now signed) ≤ mostMasks) ⌝ }
+    ensures { λ _. ⌜ ((n : ℕ) → length (now (signed .entry)) ≡ 2 ^ n → now (row .exit) ≡ putAt (list (2 ^ n) (weighed (flippedSum (2 ^ n) (now (totals .entry))) (gathered true n (list (2 ^ n) (signedAt (now (totals .entry))))))) 0 (now (row .entry))) ⌝ }
 {
-    gather(totals, true);
-    weigh(totals, row);
+    unflip(totals, signed);
+    gather(signed, true);
+    weigh(signed, constant_of(totals), row);
 }
 
-// Where each wire's own start ends, at the front of `ends`; where they do not fit, nothing is written.
-fn put_ends(masks: &[u16], ends: &mut [u16])
-    requires { ⌜ length (now masks) ≤ mostWires ⌝ }
-    ensures { λ _. ⌜ now (ends .exit) ≡ putAt (list (length (now (masks .entry))) (column (now (masks .entry)))) 0 (now (ends .entry)) ⌝ }
+// Where each listed start ends, at the front of `ends`; where they do not fit, nothing is written.
+fn put_ends(held: &[u16], ends: &mut [u16])
+    requires { ⌜ length (now held) ≤ mostWires ⌝ }
+    ensures { λ _. ⌜ now (ends .exit) ≡ putAt (list (length (now (held .entry)) + 1) (listedColumn (now (held .entry)))) 0 (now (ends .entry)) ⌝ }
 {
-    let wires = masks.len();
-    if ends.len() < wires {
+    let starts = held.len() + 1;
+    if ends.len() < starts {
         return;
     }
     let mut i: usize = 0;
-    while i < wires {
-        ends[i] = end_of(masks, i);
+    while i < starts {
+        ends[i] = end_of(held, i);
         i += 1;
     }
 }
 
-// Where the start 2^i ends: bit j is bit i of wire j's mask.
-fn end_of(masks: &[u16], i: usize) -> u16
-    requires { ⌜ (length (now masks) ≤ mostWires) × (i < 16) ⌝ }
-    ensures { λ r. ⌜ r ≡ column (now (masks .entry)) i ⌝ }
+// Where the i-th listed start ends: start 0 with a bit for each flip, the start 2^(i-1) with those turned that hold its wire.
+fn end_of(held: &[u16], i: usize) -> u16
+    requires { ⌜ (length (now held) ≤ mostWires) × (i < 16) ⌝ }
+    ensures { λ r. ⌜ r ≡ listedColumn (now (held .entry)) i ⌝ }
+{
+    let flips = column_of(held, 0);
+    if i == 0 {
+        return flips;
+    }
+    column_of(held, i) ^ flips
+}
+
+// Bit j of the answer is bit i of what wire j holds.
+fn column_of(held: &[u16], i: usize) -> u16
+    requires { ⌜ (length (now held) ≤ mostWires) × (i < 16) ⌝ }
+    ensures { λ r. ⌜ r ≡ column (now (held .entry)) i ⌝ }
 {
     let mut state: u16 = 0;
     let mut place: u16 = 1;
     let mut j: usize = 0;
-    while j < masks.len() {
-        state += ((masks[j] >> i) % 2) * place;
+    while j < held.len() {
+        state += ((held[j] >> i) % 2) * place;
         place += place;
         j += 1;
     }

@@ -5,15 +5,15 @@ ghost use lib.ListN.{length};
 ghost use Rattle.numbers.specs.Sums.{list};
 ghost use Rattle.circuit.specs.Bytes.{putAt};
 ghost use Rattle.running.specs.Masks.{mostMasks};
-ghost use Rattle.coefficients.specs.Working.{weightAt, weighed};
+ghost use Rattle.coefficients.specs.Working.{weightAt, weighedAt, weighed};
 
 // By the number of wires k: nothing for none, else (-2)^(k-1), wrapped.
 const WEIGHTS: [u16; 11] = [0, 1, 65534, 4, 65528, 16, 65504, 64, 65408, 256, 65024];
 
-// Each sum by the weight of its set, at the front of `out`; where they do not fit, nothing is written.
-pub(crate) fn weigh(v: &[u16], out: &mut [u16])
+// The constant, then each sum by the weight of its set, at the front of `out`; where they do not fit, nothing is written.
+pub(crate) fn weigh(v: &[u16], constant: u16, out: &mut [u16])
     requires { ⌜ length (now v) ≤ mostMasks ⌝ }
-    ensures { λ _. ⌜ now (out .exit) ≡ putAt (list (length (now (v .entry))) (weighed (now (v .entry)))) 0 (now (out .entry)) ⌝ }
+    ensures { λ _. ⌜ now (out .exit) ≡ putAt (list (length (now (v .entry))) (weighed constant (now (v .entry)))) 0 (now (out .entry)) ⌝ }
 {
     let size = v.len();
     if out.len() < size {
@@ -22,9 +22,20 @@ pub(crate) fn weigh(v: &[u16], out: &mut [u16])
     let mut s: usize = 0;
     while s < size {
         let sum = v[s];
-        out[s] = product(weight(s), sum);
+        out[s] = entry_of(s, constant, sum);
         s += 1;
     }
+}
+
+// The constant at the empty set, else the sum by its weight.
+fn entry_of(s: usize, constant: u16, sum: u16) -> u16
+    requires { ⌜ s < mostMasks ⌝ }
+    ensures { λ r. ⌜ r ≡ weighedAt constant s sum ⌝ }
+{
+    if s == 0 {
+        return constant;
+    }
+    product(weight(s), sum)
 }
 
 fn weight(s: usize) -> u16

@@ -1,16 +1,15 @@
 -- Phase gates by the number that they meet: a sum over the gates, collected number by number.
 use Prim.Native.Nat.{ℕ, suc, _+_, _*_, _^_, _<_, _≤_, _∣_}
 use native.Mathlib.Nat.{add-mul, zero-mul, mul-zero, dvd-zero, dvd-add}
-use native.Mathlib.Decide.{decLt}
 use native.Mathlib.Omega.{arith}
 use mathlib.Core.Path.{_≡_, refl, sym, ap, ap₂, _∙_}
 use mathlib.Core.List.{List, [], _∷_}
-use lib.ListN.{getD, List·getD-eq-default}
+use lib.ListN.{length, getD}
 use lib.Pow.{pow-mono}
 use Rattle.numbers.specs.Bits.{equal}
 use Rattle.numbers.specs.Sums.{sum}
 use Rattle.numbers.proofs.Sums.{ℕ-adds, sumOf-ext, sumOf-none, sumOf-plus}
-use Rattle.numbers.proofs.Lists.{getD-list-else}
+use Rattle.numbers.proofs.Lists.{length-list, getD-list-else}
 use Rattle.numbers.proofs.Parity.{equal-sym, equal-no}
 use Rattle.numbers.proofs.Turns.{≈-of, _≈∙_}
 use Rattle.numbers.proofs.Subsets.{sum-pick}
@@ -78,6 +77,11 @@ no-group w gs n h =
     total-number w gs n
     ∙ (sumNumbers-≈ w (λ k a. a * equal k n) (λ k a. 0) (λ k a l. ≈-of (ap (a *_) (equal-no (λ (e : k ≡ n). omega arith)) ∙ mul-zero a)) gs (ownNumbers w) (own-below w)
     ≈∙ ≈-of (sum-nothing gs (ownNumbers w))) .alike
+
+-- a file's row of totals
+pub length-totals : (f : List ℕ) → length (totalsOf f) ≡ mostGroups
+unfolding totalsOf
+length-totals f = length-list mostGroups (λ k. groupTotal (wiresOf f) (gatesOf f) (heldOf k))
 
 -- a good file's row of totals has each group's
 pub total-at : (f : List ℕ) → wiresOf f ≤ mostWires → (n : ℕ) → getD (totalsOf f) n 0 ≡ groupTotal (wiresOf f) (gatesOf f) (heldOf n)

@@ -1,6 +1,6 @@
 -- The numbers of the code are the paper's masks and flips, gate by gate; and what a wire holds is never an empty mask.
 use Prim.Native.Nat.{ℕ, suc, _+_, _*_, _/_, _%_, _^_, _<_}
-use native.Mathlib.Nat.{mul-zero, one-mul, zero-mul}
+use native.Mathlib.Nat.{one-mul, zero-mul}
 use native.Mathlib.Decide.{ℕ-discrete, decLt}
 use native.Mathlib.Omega.{arith}
 use mathlib.Core.Path.{_≡_, refl, sym, ap, ap₂, _∙_}
@@ -10,7 +10,8 @@ use lib.ListN.{length, getD, set, take, length-set, List·getD-eq-default}
 use lib.Seq.{getD-set-same, getD-set-other, set-out}
 use Rattle.numbers.specs.Bits.{bit, dot, equal}
 use Rattle.numbers.proofs.Lists.{length-list, getD-list}
-use Rattle.numbers.proofs.Parity.{dot-none, equal-yes, equal-no}
+use Rattle.numbers.proofs.Parity.{dot-none}
+use Rattle.numbers.proofs.Subsets.{equal-low}
 use Rattle.numbers.proofs.Wires.{xor-low, xor-half, bit-own}
 use Rattle.circuit.specs.declared.Gate.{Gate}
 use Rattle.circuit.specs.declared.Gate.the-variants.{Cnot, Phase, Inverter}
@@ -28,12 +29,7 @@ pub number-held : (n : ℕ) → numberOf (heldOf n) ≡ n
 number-held n = omega arith
 
 pub same-number : (m n : ℕ) → sameHeld (heldOf m) (heldOf n) ≡ equal m n
-same-number m n = by (ℕ-discrete m n) (ℕ-discrete (m / 2) (n / 2))
-  where
-    by : Dec (m ≡ n) → Dec (m / 2 ≡ n / 2) → equal (m / 2) (n / 2) * equal (m % 2) (n % 2) ≡ equal m n
-    by (yes e) d = rw (equal-yes {a = m / 2} {b = n / 2} (ap (_/ 2) e), equal-yes {a = m % 2} {b = n % 2} (ap (_% 2) e), equal-yes {a = m} {b = n} e)
-    by (no e) (no d) = rw (equal-no {a = m / 2} {b = n / 2} d, equal-no {a = m} {b = n} e) (zero-mul (equal (m % 2) (n % 2)))
-    by (no e) (yes d) = rw (equal-no {a = m % 2} {b = n % 2} (λ q. e (omega arith)), equal-no {a = m} {b = n} e) (mul-zero (equal (m / 2) (n / 2)))
+same-number m n = sym (equal-low m n)
 
 -- the exclusive or of two numbers is that of the masks, and of the flips
 pub mixed-number : (m n : ℕ) → mixed (heldOf m) (heldOf n) ≡ heldOf (bitXor m n)

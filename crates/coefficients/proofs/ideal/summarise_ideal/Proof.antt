@@ -14,7 +14,7 @@ use Rattle.table.specs.Table.{tableChecks, valueAt, checkedSays}
 use Rattle.table.proofs.Callers.{check-answers, check-refuses, good-variables}
 use Rattle.circuit.specs.Bytes.{putAt}
 use Rattle.coefficients.specs.Coefficients.{idealCoefficient, idealCoefficients, idealEnds}
-use Rattle.coefficients.proofs.Turning.{ideal-fits, ideal-row, some-powers}
+use Rattle.coefficients.proofs.Turning.{ideal-fits, ideal-row, some-starts}
 use Rattle.coefficients.proofs.Answers.{sums-refused, sums-passed}
 use Rattle.coefficients.proofs.ideal.summarise_ideal.Statement.{statement}
 use Rattle.coefficients.proofs.ideal.summarise_ideal.Tie as tie
@@ -31,8 +31,8 @@ halved c = c .before .before .before
 abbrev written : tie.After-slice-known4 → tie.After-slice-known3
 written c = c .before .before .before .before .before .before
 
-abbrev owned : tie.After-slice-known4 → tie.After-own-masks
-owned c = c .before .before .before .before .before
+abbrev listed : tie.After-slice-known4 → tie.After-listed-starts
+listed c = c .before .before .before .before .before
 
 abbrev upper : tie.After-slice-known3 → tie.After-put-ideal
 upper c = c .before .before .before .before .before .before
@@ -128,20 +128,20 @@ slice-aggregate-put c =
 put-requires : tie.Need-put-requires
 put-requires c κs = search needs
 
-own-masks-requires : tie.Need-own-masks-requires
-own-masks-requires c κs = search needs
+listed-starts-requires : tie.Need-listed-starts-requires
+listed-starts-requires c κs = search needs
 
-add-own : tie.Need-add-own
-add-own c = search needs
+add-starts : tie.Need-add-starts
+add-starts c = search needs
 
-array-share-prefix-own : tie.Need-array-share-prefix-own
-array-share-prefix-own c = omega (arith, few (halved (upper (c .before))), ap length (c .own-masks .ensures))
+array-share-prefix-starts : tie.Need-array-share-prefix-starts
+array-share-prefix-starts c = omega (arith, few (halved (upper (c .before))), ap length (c .listed-starts .ensures))
 
 slice-aggregate-put-2 : tie.Need-slice-aggregate-put-2
 slice-aggregate-put-2 c =
     let own = c .before in
     let p = halved (upper (own .before)) in
-    sym (length-take-le (begun p .args .n + 1) (own .own-masks .result) (omega (arith, few p, ap length (own .own-masks .ensures))))
+    sym (length-take-le (begun p .args .n + 2) (own .listed-starts .result) (omega (arith, few p, ap length (own .listed-starts .ensures))))
 
 put-requires-2 : tie.Need-put-requires-2
 put-requires-2 c κs = search needs
@@ -155,7 +155,7 @@ same-length-2 c = search needs
 returns-2 : tie.Need-returns-2
 returns-2 c =
     let w = written c in
-    let own = owned c in
+    let own = listed c in
     let u = upper w in
     let p = halved u in
     let a = begun p .args in
@@ -163,7 +163,7 @@ returns-2 c =
     let row = u .before .before .empty in
     sums-passed checkedSays (outcome (tableChecks (a .n) (a .table .now))) [] (idealCoefficients (a .n) f) (idealEnds (a .n)) (a .row .now) (a .ends .now) _ _ _ refl (good p)
     (w .before .before .put .ensures ∙ ap (λ (v : List ℕ). putAt v 0 (a .row .now)) (ideal-row (a .n) (p .power .result) (half p) f (row .result) (u .put-ideal .last .1 .0) (row .ensures) (omega (arith, fits p)) (sums u)))
-    (c .before .before .put2 .ensures ∙ ap (λ (v : List ℕ). putAt v 0 (a .ends .now)) (some-powers (own .own-masks .result) (a .n + 1) (own .own-masks .ensures) (omega (arith, few p))))
+    (c .before .before .put2 .ensures ∙ ap (λ (v : List ℕ). putAt v 0 (a .ends .now)) (some-starts (own .listed-starts .result) (a .n + 2) (own .listed-starts .ensures) (omega (arith, few p))))
 
 pub summarise-ideal-spec : {M : Type 1} → statement M
 summarise-ideal-spec =
@@ -184,9 +184,9 @@ summarise-ideal-spec =
     array-share-prefix-ideal
     slice-aggregate-put
     put-requires
-    own-masks-requires
-    add-own
-    array-share-prefix-own
+    listed-starts-requires
+    add-starts
+    array-share-prefix-starts
     slice-aggregate-put-2
     put-requires-2
     same-length

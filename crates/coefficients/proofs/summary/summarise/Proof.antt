@@ -1,29 +1,32 @@
-use mathlib.Core.Path.{refl, sym, ap₂}
+use mathlib.Core.Path.{_≡_, refl, sym, ap, ap₂, _∙_}
 use mathlib.Core.List.{[], _∷_}
-use Prim.Native.Nat.{ℕ}
+use Prim.Native.Nat.{ℕ, _+_, _≤_}
+use lib.ListN.{length, take}
+use lib.Seq.{length-take-le}
+use Rattle.running.specs.Masks.{mostMasks}
 use native.Mathlib.Omega.{arith}
 use borrow.Author.Needs.{needs}
 use Rattle.refusal.specs.Checks.{outcome}
 use Rattle.refusal.specs.Contract.{values}
 use Rattle.circuit.specs.File.{wiresOf, countOf, gatesOf, fileChecks, readingSays}
 use Rattle.circuit.proofs.Callers.{read-refuses}
-use Rattle.coefficients.specs.Coefficients.{coefficients, singleEnds}
-use Rattle.coefficients.proofs.Summaries.{Grouped, grouped, size-fits, totals-long, part-long, coefficients-put, masks-long, front-long, ends-put}
+use Rattle.coefficients.specs.Coefficients.{coefficients, listedEnds}
+use Rattle.coefficients.proofs.Summaries.{Grouped, grouped, size-fits, totals-long, part-long, coefficients-put, held-long, front-long, ends-put}
 use Rattle.coefficients.proofs.Answers.{sums-refused, sums-passed}
 use Rattle.coefficients.proofs.summary.summarise.Statement.{statement}
 use Rattle.coefficients.proofs.summary.summarise.Tie as tie
 
 abbrev start : tie.After-sum-groups → tie.Start
-start c = c .before .before .before .before .before .before .before .before
+start c = c .before .before .before .before .before .before .before
 
 abbrev known : tie.After-sum-groups → tie.After-shared-slice-known
-known c = c .before .before .before .before .before .before .before
+known c = c .before .before .before .before .before .before
 
 abbrev sums : tie.After-power → tie.After-sum-groups
 sums c = c .before .before .before .before
 
-abbrev put : tie.After-slice-known3 → tie.After-power
-put c = c .before .before .before .before .before .before
+abbrev put : tie.After-slice-known3 → tie.After-empty
+put c = c .before .before .before .before .before .before .before
 
 abbrev ended : tie.After-slice-known4 → tie.After-slice-known3
 ended c = c .before .before .before .before .before
@@ -34,11 +37,22 @@ group c =
     let v = c .before .before .wires .given in
     grouped (start s .args .side) (start s .args .file .now) _ _ (s .sum-groups .result) _ _ (s .sum-groups .ensures) (v .0 .0) (v .0 .1 .0) (v .1)
 
-empty-requires : tie.Need-empty-requires
-empty-requires c κs = search needs
+-- as many sets as fit the rows, and both parts of them
+few : (c : tie.After-power) → c .power .result ≤ mostMasks
+few c =
+    let s = sums c in
+    size-fits (start s .args .side) (start s .args .file .now) (s .sum-groups .last .1 .1 .0) (s .sum-groups .last .1 .1 .1 .0) _ _ (group c) (c .power .result) (c .power .ensures)
 
-own-masks-requires : tie.Need-own-masks-requires
-own-masks-requires c κs = search needs
+both-parts : (c : tie.After-power) → let s = sums c in length (take (c .power .result + c .power .result) (s .sum-groups .last .1 .1 .0)) ≡ c .power .result + c .power .result
+both-parts c =
+    let s = sums c in
+    part-long (start s .args .side) (start s .args .file .now) (s .sum-groups .last .1 .1 .0) (s .sum-groups .last .1 .1 .1 .0) _ _ (group c) (c .power .result) (c .power .ensures)
+
+one-part : (c : tie.After-empty) → length (take (c .before .power .result) (c .empty .result)) ≡ c .before .power .result
+one-part c = length-take-le (c .before .power .result) (c .empty .result) (omega (arith, few (c .before), ap length (c .empty .ensures)))
+
+own-held-requires : tie.Need-own-held-requires
+own-held-requires c κs = search needs
 
 sum-groups-requires : tie.Need-sum-groups-requires
 sum-groups-requires c κs = search needs
@@ -52,41 +66,50 @@ enum-known-wires c = search needs
 power-requires : tie.Need-power-requires
 power-requires c κs = search needs
 
-array-borrow-prefix-totals : tie.Need-array-borrow-prefix-totals
-array-borrow-prefix-totals c =
-    let s = sums c in
-    omega (arith, size-fits (start s .args .side) (start s .args .file .now) (s .sum-groups .last .1 .1 .0) (s .sum-groups .last .1 .1 .1 .0) _ _ (group c) (c .power .result) (c .power .ensures), totals-long (start s .args .side) (start s .args .file .now) (s .sum-groups .last .1 .1 .0) (s .sum-groups .last .1 .1 .1 .0) _ _ (group c))
+empty-requires : tie.Need-empty-requires
+empty-requires c κs = search needs
 
-slice-aggregate-put-coefficients : tie.Need-slice-aggregate-put-coefficients
-slice-aggregate-put-coefficients c =
+add-totals : tie.Need-add-totals
+add-totals c = omega (arith, few (c .before))
+
+array-share-prefix-totals : tie.Need-array-share-prefix-totals
+array-share-prefix-totals c =
     let p = c .before in
     let s = sums p in
-    sym (part-long (start s .args .side) (start s .args .file .now) (s .sum-groups .last .1 .1 .0) (s .sum-groups .last .1 .1 .1 .0) _ _ (group p) (p .power .result) (p .power .ensures))
+    omega (arith, few p, totals-long (start s .args .side) (start s .args .file .now) (s .sum-groups .last .1 .1 .0) (s .sum-groups .last .1 .1 .1 .0) _ _ (group p) (p .power .result) (p .power .ensures))
+
+slice-aggregate-put-coefficients : tie.Need-slice-aggregate-put-coefficients
+slice-aggregate-put-coefficients c = sym (both-parts (c .before .before))
+
+array-borrow-prefix-signed : tie.Need-array-borrow-prefix-signed
+array-borrow-prefix-signed c = let e = c .before in omega (arith, few (e .before), ap length (e .empty .ensures))
+
+slice-aggregate-put-coefficients-2 : tie.Need-slice-aggregate-put-coefficients-2
+slice-aggregate-put-coefficients-2 c = sym (one-part (c .before .before))
 
 put-coefficients-requires : tie.Need-put-coefficients-requires
 put-coefficients-requires c κs =
-    let p = c .before .before in
-    let s = sums p in
-    omega (arith, size-fits (start s .args .side) (start s .args .file .now) (s .sum-groups .last .1 .1 .0) (s .sum-groups .last .1 .1 .1 .0) _ _ (group p) (p .power .result) (p .power .ensures), part-long (start s .args .side) (start s .args .file .now) (s .sum-groups .last .1 .1 .0) (s .sum-groups .last .1 .1 .1 .0) _ _ (group p) (p .power .result) (p .power .ensures))
+    let e = c .before .before .before in
+    (omega (arith, both-parts (e .before), one-part e), omega (arith, few (e .before), one-part e))
 
-cast-masks : tie.Need-cast-masks
-cast-masks c = search needs
+cast-held : tie.Need-cast-held
+cast-held c = search needs
 
-array-share-prefix-masks : tie.Need-array-share-prefix-masks
-array-share-prefix-masks c =
-    let p = put c in
+array-share-prefix-held : tie.Need-array-share-prefix-held
+array-share-prefix-held c =
+    let p = put c .before in
     let s = sums p in
-    omega (arith, masks-long (start s .args .side) (start s .args .file .now) (s .sum-groups .last .1 .1 .0) (s .sum-groups .last .1 .1 .1 .0) _ _ (group p), group p .read .wires, group p .read .file .few)
+    omega (arith, held-long (start s .args .side) (start s .args .file .now) (s .sum-groups .last .1 .1 .0) (s .sum-groups .last .1 .1 .1 .0) _ _ (group p), group p .read .wires, group p .read .file .few)
 
 slice-aggregate-put-ends : tie.Need-slice-aggregate-put-ends
 slice-aggregate-put-ends c =
-    let p = put (c .before) in
+    let p = put (c .before) .before in
     let s = sums p in
     sym (front-long (start s .args .side) (start s .args .file .now) (s .sum-groups .last .1 .1 .0) (s .sum-groups .last .1 .1 .1 .0) _ _ (group p))
 
 put-ends-requires : tie.Need-put-ends-requires
 put-ends-requires c κs =
-    let p = put (c .before .before) in
+    let p = put (c .before .before) .before in
     let s = sums p in
     omega (arith, front-long (start s .args .side) (start s .args .file .now) (s .sum-groups .last .1 .1 .0) (s .sum-groups .last .1 .1 .1 .0) _ _ (group p), group p .read .wires, group p .read .file .few)
 
@@ -97,7 +120,7 @@ returns c =
     let a = start s .args in
     let f = a .file .now in
     let v = refused .refusal .given in
-    sums-refused readingSays (outcome (fileChecks (a .side) f)) (wiresOf f ∷ countOf f ∷ []) (coefficients (wiresOf f) (gatesOf f)) (singleEnds (wiresOf f) (gatesOf f)) (a .row .now) (a .ends .now) _ (v .0 .0) refl
+    sums-refused readingSays (outcome (fileChecks (a .side) f)) (wiresOf f ∷ countOf f ∷ []) (coefficients (wiresOf f) (gatesOf f)) (listedEnds (wiresOf f) (gatesOf f)) (a .row .now) (a .ends .now) _ (v .0 .0) refl
     (read-refuses (a .side) f (s .sum-groups .result) (s .sum-groups .ensures .reads) (v .0 .0) (v .1))
 
 same-length : tie.Need-same-length
@@ -109,31 +132,35 @@ same-length-2 c = search needs
 returns-2 : tie.Need-returns-2
 returns-2 c =
     let t = ended c in
-    let p = put t in
+    let lent = put t in
+    let p = lent .before in
     let s = sums p in
     let a = start s .args in
     let f = a .file .now in
     let g = group p in
-    sums-passed readingSays (outcome (fileChecks (a .side) f)) (wiresOf f ∷ countOf f ∷ []) (coefficients (wiresOf f) (gatesOf f)) (singleEnds (wiresOf f) (gatesOf f)) (a .row .now) (a .ends .now) _ _ _
+    sums-passed readingSays (outcome (fileChecks (a .side) f)) (wiresOf f ∷ countOf f ∷ []) (coefficients (wiresOf f) (gatesOf f)) (listedEnds (wiresOf f) (gatesOf f)) (a .row .now) (a .ends .now) _ _ _
     (ap₂ (λ (w n : ℕ). values (w ∷ n ∷ [])) (g .read .wires) (g .read .count)) (g .read .passes)
-    (coefficients-put (start s .args .side) (start s .args .file .now) (s .sum-groups .last .1 .1 .0) (s .sum-groups .last .1 .1 .1 .0) _ _ (group p) (p .power .result) (p .power .ensures) (a .row .now) _ (t .before .before .before .put-coefficients .ensures))
+    (coefficients-put (start s .args .side) (start s .args .file .now) (s .sum-groups .last .1 .1 .0) (s .sum-groups .last .1 .1 .1 .0) _ _ (group p) (p .power .result) (p .power .ensures) (a .row .now) _ (λ n q. t .before .before .before .put-coefficients .ensures n (one-part lent ∙ q)))
     (ends-put (start s .args .side) (start s .args .file .now) (s .sum-groups .last .1 .1 .0) (s .sum-groups .last .1 .1 .1 .0) _ _ (group p) (λ j. known s .shared-slice-known .given j .fits) (a .ends .now) _ (c .before .before .put-ends .ensures))
 
 pub summarise-spec : {M : Type 1} → statement M
 summarise-spec =
     tie.close
     (tie.spec
-    empty-requires
-    own-masks-requires
+    own-held-requires
     sum-groups-requires
     enum-known-refusal
     enum-known-wires
     power-requires
-    array-borrow-prefix-totals
+    empty-requires
+    add-totals
+    array-share-prefix-totals
     slice-aggregate-put-coefficients
+    array-borrow-prefix-signed
+    slice-aggregate-put-coefficients-2
     put-coefficients-requires
-    cast-masks
-    array-share-prefix-masks
+    cast-held
+    array-share-prefix-held
     slice-aggregate-put-ends
     put-ends-requires
     returns
