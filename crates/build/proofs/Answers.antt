@@ -83,12 +83,12 @@ module _ (n : ℕ) (t : List ℕ) (small : n ≤ 8) (row : List ℤ) (e : row �
         let long = ap length ea ∙ length-list l (λ j. angle n (getD row j (pos 0))) in
         ap₂ (λ m (j : ℕ). getD m j 0) eo (zero-add k) ∙ getD-list (length angles) (λ j. minus (getD angles j 0)) k 0 (omega (arith, long, pow-mono {i = n} {j = 8} small)) ∙ ap minus (angle-at k h)
 
-    file-is : fileOf (n + 1) (parts n (λ k. getD angles k 0) (λ v. getD opposites (0 + v) 0)) ≡ builtFile n t
+    file-is : fileOf 1 (n + 1) (parts n (λ k. getD angles k 0) (λ v. getD opposites (0 + v) 0)) ≡ builtFile n t
     unfolding construction
-    file-is = ap (fileOf (n + 1)) (parts-same n (λ k. getD angles k 0) (λ v. getD opposites (0 + v) 0) (theta n (valueAt t)) (λ v. minus (theta n (valueAt t) v)) angle-at opposite-at)
+    file-is = ap (fileOf 1 (n + 1)) (parts-same n (λ k. getD angles k 0) (λ v. getD opposites (0 + v) 0) (theta n (valueAt t)) (λ v. minus (theta n (valueAt t) v)) angle-at opposite-at)
 
     -- what the call leaves: the file, then what stood there
-    pub leaves-file : 0 < n → (before after : List ℕ) → 2 ^ (n + 4) ≤ length before → after ≡ putAt (fileOf (n + 1) (parts n (λ k. getD angles k 0) (λ v. getD opposites (0 + v) 0))) 0 before
+    pub leaves-file : 0 < n → (before after : List ℕ) → 2 ^ (n + 4) ≤ length before → after ≡ putAt (fileOf 1 (n + 1) (parts n (λ k. getD angles k 0) (λ v. getD opposites (0 + v) 0))) 0 before
         → after ≡ builtFile n t ++ drop (length (builtFile n t)) before
     leaves-file p before after h w =
         w ∙ ap (λ b. putAt b 0 before) file-is ∙ put-fits (builtFile n t) 0 before (omega (arith, built-long n t p))

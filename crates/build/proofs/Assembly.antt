@@ -22,13 +22,13 @@ module _ (n : ℕ) (a b : ℕ → ℕ) (p : 0 < n) (small : n ≤ 8) (r : ℕ) (
   pub gates-fit : (2 ≤ r) × (r < 65536)
   gates-fit = (omega (arith, power, pow-mono {i = 1} {j = n + 2} (omega arith)), omega (arith, power, pow-mono {i = n + 2} {j = 10} (omega arith)))
 
-  in-parts : fileOf (n + 1) (parts n a b) ≡ headerBytes (n + 1) (r - 2) ++ (bytesOf (firstQuarter n) ++ (bytesOf (variables n a) ++ bytesOf (block n b)))
+  in-parts : fileOf 1 (n + 1) (parts n a b) ≡ headerBytes 1 (n + 1) (r - 2) ++ (bytesOf (firstQuarter n) ++ (bytesOf (variables n a) ++ bytesOf (block n b)))
   unfolding fileOf
   in-parts =
-      ap₂ (λ (g : ℕ) (x : List ℕ). headerBytes (n + 1) g ++ x) (let q : length (parts n a b) ≡ r - 2 = omega (arith, power, length-parts n a b p) in q)
+      ap₂ (λ (g : ℕ) (x : List ℕ). headerBytes 1 (n + 1) g ++ x) (let q : length (parts n a b) ≡ r - 2 = omega (arith, power, length-parts n a b p) in q)
       (bytes-append (firstQuarter n) (variables n a ++ block n b) ∙ ap (bytesOf (firstQuarter n) ++_) (bytes-append (variables n a) (block n b)))
 
   -- nothing is written yet
   pub file-left : (out : List ℕ) → 2 ^ (n + 4) ≤ length out
-      → Left (fileOf (n + 1) (parts n a b)) 0 out (headerBytes (n + 1) (r - 2) ++ (bytesOf (firstQuarter n) ++ (bytesOf (variables n a) ++ bytesOf (block n b)))) 0 out
+      → Left (fileOf 1 (n + 1) (parts n a b)) 0 out (headerBytes 1 (n + 1) (r - 2) ++ (bytesOf (firstQuarter n) ++ (bytesOf (variables n a) ++ bytesOf (block n b)))) 0 out
   file-left out h = all-left 0 out in-parts (omega (arith, length-parts-file n a b p))

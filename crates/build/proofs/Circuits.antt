@@ -14,12 +14,12 @@ use Rattle.numbers.proofs.Turns.{difference-below, wrap-below}
 use Rattle.spectrum.specs.Spectrum.{coefficient, theta}
 use Rattle.circuit.specs.declared.Gate.{Gate}
 use Rattle.circuit.specs.declared.Gate.the-variants.{Phase}
-use Rattle.circuit.specs.Working.{AllSound}
+use Rattle.circuit.specs.Working.{AllSound, AllAdmitted}
 use Rattle.circuit.specs.File.{fileOf}
-use Rattle.running.specs.Masks.{ownMasks, masksFrom, sumMet}
-use Rattle.circuit.proofs.Decoding.{sound-cons, sound-append}
+use Rattle.running.specs.Working.{ownMasks, numbersFrom, sumNumbers}
+use Rattle.circuit.proofs.Decoding.{sound-cons, sound-append, admitted-cons, admitted-append}
 use Rattle.circuit.proofs.Files.{length-file}
-use Rattle.running.proofs.Masks.{masks-none, masks-cons, masks-append, sum-none, sum-cons, sum-append}
+use Rattle.running.proofs.Masks.{numbers-none, numbers-cons, numbers-append, sum-none, sum-cons, sum-append}
 use Rattle.build.specs.Gray.{word}
 use Rattle.build.specs.Construction.{inTurn, cnotAfter, block, minus, firstQuarter, variables, target, construction}
 use Rattle.build.specs.Working.{parts}
@@ -52,8 +52,8 @@ length-parts (suc m) a b p =
     ∙ omega (arith, length-variables m a, length-block m b, pow-add 2 (suc m) 2)
 
 -- "the file is 2^(n+4) bytes"
-pub length-parts-file : (n : ℕ) (a b : ℕ → ℕ) → 0 < n → length (fileOf (n + 1) (parts n a b)) ≡ 2 ^ (n + 4)
-length-parts-file n a b p = omega (arith, length-file (n + 1) (parts n a b), length-parts n a b p, pow-add 2 n 2, pow-add 2 n 4)
+pub length-parts-file : (n : ℕ) (a b : ℕ → ℕ) → 0 < n → length (fileOf 1 (n + 1) (parts n a b)) ≡ 2 ^ (n + 4)
+length-parts-file n a b p = omega (arith, length-file 1 (n + 1) (parts n a b), length-parts n a b p, pow-add 2 n 2, pow-add 2 n 4)
 
 -- ---- sound on n + 1 wires
 
@@ -87,13 +87,35 @@ sound-construction n f =
     (sound-inTurn (n + 1) n (λ i. block i (λ v. θ (2 ^ i + v))) (λ i h. sound-block (n + 1) i (λ v. θ (2 ^ i + v)) (omega arith) (λ v. theta-below n f (2 ^ i + v))))
     (sound-block (n + 1) n (λ v. minus (θ v)) (omega arith) (λ v. difference-below 0 (θ v))))
 
+-- ---- without an inverter
+
+admitted-inTurn : (v m : ℕ) (F : ℕ → List Gate) → ((k : ℕ) → AllAdmitted v (F k)) → AllAdmitted v (inTurn m F)
+unfolding AllAdmitted
+admitted-inTurn v zero F h = tt
+admitted-inTurn v (suc m) F h = admitted-append v (inTurn m F) (F m) (admitted-inTurn v m F h) (h m)
+
+admitted-cnot : (v i k : ℕ) → AllAdmitted v (cnotAfter i k)
+unfolding AllAdmitted
+admitted-cnot v zero k = tt
+admitted-cnot v (suc j) k = (tt, tt)
+
+pub admitted-block : (v i : ℕ) (angleAt : ℕ → ℕ) → AllAdmitted v (block i angleAt)
+admitted-block v i angleAt = admitted-inTurn v (2 ^ i) (pairAt i angleAt) (λ k. admitted-cons v (Phase i (angleAt (word i k))) (cnotAfter i k) tt (admitted-cnot v i k))
+
+pub admitted-construction : (v n : ℕ) (f : ℕ → ℕ) → AllAdmitted v (construction n f)
+unfolding construction AllAdmitted
+admitted-construction v n f =
+    let θ = theta n f in
+    admitted-append v (firstQuarter n) (variables n θ ++ target n θ) (tt, tt)
+    (admitted-append v (variables n θ) (target n θ) (admitted-inTurn v n (λ i. block i (λ k. θ (2 ^ i + k))) (λ i. admitted-block v i (λ k. θ (2 ^ i + k)))) (admitted-block v n (λ k. minus (θ k))))
+
 -- ---- the masks
 
-variables-masks : (w n : ℕ) (angleAt : ℕ → ℕ) → n ≤ w → masksFrom (variables n angleAt) (ownMasks w) ≡ ownMasks w
-variables-masks w zero angleAt h = masks-none (ownMasks w)
+variables-masks : (w n : ℕ) (angleAt : ℕ → ℕ) → n ≤ w → numbersFrom (variables n angleAt) (ownMasks w) ≡ ownMasks w
+variables-masks w zero angleAt h = numbers-none (ownMasks w)
 variables-masks w (suc n) angleAt h =
-    masks-append (variables n angleAt) (block n (λ v. angleAt (2 ^ n + v))) (ownMasks w)
-    ∙ ap (masksFrom (block n (λ v. angleAt (2 ^ n + v)))) (variables-masks w n angleAt (omega arith)) ∙ block-masks w n (omega arith) (λ v. angleAt (2 ^ n + v))
+    numbers-append (variables n angleAt) (block n (λ v. angleAt (2 ^ n + v))) (ownMasks w)
+    ∙ ap (numbersFrom (block n (λ v. angleAt (2 ^ n + v)))) (variables-masks w n angleAt (omega arith)) ∙ block-masks w n (omega arith) (λ v. angleAt (2 ^ n + v))
 
 -- the blocks' masks are all numbers from 1 on, each once
 blocks-merge : (n : ℕ) (F : ℕ → ℕ) → F 0 + sum n (λ i. sum (2 ^ i) (λ v. F (2 ^ i + v))) ≡ sum (2 ^ n) F
@@ -103,42 +125,42 @@ blocks-merge (suc n) F =
     ∙ ap (_+ sum (2 ^ n) (λ v. F (2 ^ n + v))) (blocks-merge n F) ∙ sym (ap (λ (m : ℕ). sum m F) (two-pow-succ n) ∙ sumOf-split 0 _+_ ℕ-adds (2 ^ n) (2 ^ n) F)
 
 variables-sum : (w n : ℕ) (angleAt : ℕ → ℕ) (g : ℕ → ℕ → ℕ) → n ≤ w
-    → sumMet g (variables n angleAt) (ownMasks w) ≡ sum n (λ i. sum (2 ^ i) (λ v. g (2 ^ i + v) (angleAt (2 ^ i + v))))
+    → sumNumbers g (variables n angleAt) (ownMasks w) ≡ sum n (λ i. sum (2 ^ i) (λ v. g (2 ^ i + v) (angleAt (2 ^ i + v))))
 variables-sum w zero angleAt g h = sum-none g (ownMasks w)
 variables-sum w (suc n) angleAt g h =
     sum-append g (variables n angleAt) (block n (λ v. angleAt (2 ^ n + v))) (ownMasks w)
     ∙ ap₂ _+_ (variables-sum w n angleAt g (omega arith))
-    (ap (sumMet g (block n (λ v. angleAt (2 ^ n + v)))) (variables-masks w n angleAt (omega arith)) ∙ block-sum w n (omega arith) (λ v. angleAt (2 ^ n + v)) g)
+    (ap (sumNumbers g (block n (λ v. angleAt (2 ^ n + v)))) (variables-masks w n angleAt (omega arith)) ∙ block-sum w n (omega arith) (λ v. angleAt (2 ^ n + v)) g)
 
 module _ (n : ℕ) (f : ℕ → ℕ) where
   abbrev own : List ℕ
   own = ownMasks (n + 1)
 
   -- "The wires are restored": every wire ends on its own mask
-  pub construction-masks : masksFrom (construction n f) own ≡ own
+  pub construction-masks : numbersFrom (construction n f) own ≡ own
   unfolding construction
   construction-masks =
       let θ = theta n f in
-      masks-append (firstQuarter n) (variables n θ ++ target n θ) own
-      ∙ ap (masksFrom (variables n θ ++ target n θ)) (masks-cons (Phase n 16384) [] own ∙ masks-none own)
-      ∙ masks-append (variables n θ) (target n θ) own ∙ ap (masksFrom (target n θ)) (variables-masks (n + 1) n θ (omega arith))
+      numbers-append (firstQuarter n) (variables n θ ++ target n θ) own
+      ∙ ap (numbersFrom (variables n θ ++ target n θ)) (numbers-cons (Phase n 16384) [] own ∙ numbers-none own)
+      ∙ numbers-append (variables n θ) (target n θ) own ∙ ap (numbersFrom (target n θ)) (variables-masks (n + 1) n θ (omega arith))
       ∙ block-masks (n + 1) n (omega arith) (λ v. minus (θ v))
 
   -- a sum over its phase gates: the first quarter turn, every k from 1 on with theta at k, and every 2^n + v with minus theta at v
   pub construction-sum : (g : ℕ → ℕ → ℕ) → g 0 (theta n f 0) ≡ 0
-      → sumMet g (construction n f) own ≡ g (2 ^ n) 16384 + (sum (2 ^ n) (λ k. g k (theta n f k)) + sum (2 ^ n) (λ v. g (2 ^ n + v) (minus (theta n f v))))
+      → sumNumbers g (construction n f) own ≡ g (2 ^ n) 16384 + (sum (2 ^ n) (λ k. g k (theta n f k)) + sum (2 ^ n) (λ v. g (2 ^ n + v) (minus (theta n f v))))
   unfolding construction
   construction-sum g e =
       let θ = theta n f in
       sum-append g (firstQuarter n) (variables n θ ++ target n θ) own
       ∙ ap₂ _+_
       (sum-cons g (Phase n 16384) [] own ∙ ap₂ _+_ (ap (λ (m : ℕ). g m 16384) (getD-list (n + 1) (λ j. 2 ^ j) n 0 (omega arith))) (sum-none g own) ∙ add-zero (g (2 ^ n) 16384))
-      (ap (sumMet g (variables n θ ++ target n θ)) (masks-cons (Phase n 16384) [] own ∙ masks-none own)
+      (ap (sumNumbers g (variables n θ ++ target n θ)) (numbers-cons (Phase n 16384) [] own ∙ numbers-none own)
       ∙ sum-append g (variables n θ) (target n θ) own
       ∙ ap₂ _+_
       (variables-sum (n + 1) n θ g (omega arith) ∙ sym (ap (_+ sum n (λ i. sum (2 ^ i) (λ v. g (2 ^ i + v) (θ (2 ^ i + v))))) e ∙ zero-add (sum n (λ i. sum (2 ^ i) (λ v. g (2 ^ i + v) (θ (2 ^ i + v))))))
       ∙ blocks-merge n (λ k. g k (θ k)))
-      (ap (sumMet g (target n θ)) (variables-masks (n + 1) n θ (omega arith)) ∙ block-sum (n + 1) n (omega arith) (λ v. minus (θ v)) g))
+      (ap (sumNumbers g (target n θ)) (variables-masks (n + 1) n θ (omega arith)) ∙ block-sum (n + 1) n (omega arith) (λ v. minus (θ v)) g))
 
 -- ---- the angles count only where there are words
 

@@ -9,10 +9,10 @@ use Rattle.refusal.specs.Checks.{passed, outcome}
 use Rattle.table.specs.Table.{valueAt}
 use Rattle.spectrum.specs.Spectrum.{theta}
 use Rattle.running.specs.Run.{endFrom, phaseFrom}
-use Rattle.circuit.specs.File.{wiresOf, countOf, gatesOf, fileChecks}
-use Rattle.circuit.proofs.Files.{wires-written, count-written, list-written, written-passes}
+use Rattle.circuit.specs.File.{versionOf, wiresOf, countOf, gatesOf, fileChecks}
+use Rattle.circuit.proofs.Files.{version-written, wires-written, count-written, list-written, written-passes}
 use Rattle.build.specs.Construction.{minus, construction, builtFile}
-use Rattle.build.proofs.Circuits.{length-parts, length-parts-file, sound-construction}
+use Rattle.build.proofs.Circuits.{length-parts, length-parts-file, sound-construction, admitted-construction}
 use Rattle.build.proofs.Oracle.{construction-run}
 
 -- "The gates number 2^(n+2) - 2"
@@ -31,16 +31,20 @@ module _ (n : ℕ) (t : List ℕ) (p : 0 < n) (small : n ≤ 8) where
 
   -- read accepts it, with n + 1 wires and 2^(n+2) - 2 gates
   pub built-passes : (side : ℕ) → outcome (fileChecks side (builtFile n t)) ≡ passed
-  built-passes side = written-passes (n + 1) (construction n (valueAt t)) side (omega arith) (omega arith) (sound-construction n (valueAt t)) few-gates
+  built-passes side = written-passes 1 (n + 1) (construction n (valueAt t)) (sound-construction n (valueAt t)) (admitted-construction 1 n (valueAt t)) side (omega arith) (omega arith) (omega arith) (omega arith) few-gates
+
+  -- 02 §12, "the builders write 1"
+  pub built-version : versionOf (builtFile n t) ≡ 1
+  built-version = version-written 1 (n + 1) (construction n (valueAt t))
 
   pub built-wires : wiresOf (builtFile n t) ≡ n + 1
-  built-wires = wires-written (n + 1) (construction n (valueAt t))
+  built-wires = wires-written 1 (n + 1) (construction n (valueAt t))
 
   pub built-count : countOf (builtFile n t) ≡ 2 ^ (n + 2) - 2
-  built-count = count-written (n + 1) (construction n (valueAt t)) ∙ omega (arith, construction-count n (valueAt t) p)
+  built-count = count-written 1 (n + 1) (construction n (valueAt t)) ∙ omega (arith, construction-count n (valueAt t) p)
 
   pub built-gates : gatesOf (builtFile n t) ≡ construction n (valueAt t)
-  built-gates = list-written (n + 1) (construction n (valueAt t)) (sound-construction n (valueAt t))
+  built-gates = list-written 1 (n + 1) (construction n (valueAt t)) (sound-construction n (valueAt t)) (admitted-construction 1 n (valueAt t))
 
   -- its run from x + y 2^n ends where it starts, with phase 32,768 f(x) y
   pub built-run : (x y : ℕ) → x < 2 ^ n → y < 2

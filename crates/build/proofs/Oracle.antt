@@ -22,15 +22,15 @@ use Rattle.spectrum.proofs.Inversion.{spectrum-inverts}
 use Rattle.spectrum.proofs.Angles.{angle-add, angle-opposite, angle-positive, angle-negative}
 use Rattle.running.specs.Run.{endFrom, phaseFrom, totalFrom}
 use Rattle.running.proofs.Runs.{end-below}
-use Rattle.running.proofs.Masks.{wire-parity, total-parity}
+use Rattle.running.proofs.Masks.{plain-wire, plain-total}
 use Rattle.build.specs.Construction.{minus, construction}
-use Rattle.build.proofs.Circuits.{theta-below, sound-construction, construction-masks, construction-sum}
+use Rattle.build.proofs.Circuits.{theta-below, sound-construction, admitted-construction, construction-masks, construction-sum}
 
 -- every starting state ends where it starts
 pub construction-ends : (n : ℕ) (f : ℕ → ℕ) (s : ℕ) → s < 2 ^ (n + 1) → endFrom (construction n f) s ≡ s
 construction-ends n f s h =
     same-bits (n + 1) (endFrom (construction n f) s) s (end-below (n + 1) (construction n f) s (sound-construction n f) h) h
-    (λ i l. wire-parity (n + 1) (construction n f) (sound-construction n f) s i l ∙ ap (λ ms. dot (getD ms i 0) s) (construction-masks n f)
+    (λ i l. plain-wire (n + 1) (construction n f) (sound-construction n f) (admitted-construction 1 n f) s i l ∙ ap (λ ms. dot (getD ms i 0) s) (construction-masks n f)
     ∙ ap (λ (m : ℕ). dot m s) (getD-list (n + 1) (λ j. 2 ^ j) i 0 l) ∙ dot-power i s)
 
 minus-opposite : (a : ℕ) → a < 65536 → a + minus a ≈ 0
@@ -48,7 +48,7 @@ module _ (n : ℕ) (f : ℕ → ℕ) (x : ℕ) (small : n ≤ 14) (hx : x < 2 ^ 
   -- the total from a start s, by parities
   total : (s : ℕ) → totalFrom (construction n f) s ≡ 16384 * dot (2 ^ n) s + (sum (2 ^ n) (λ k. θ k * dot k s) + sum (2 ^ n) (λ v. minus (θ v) * dot (2 ^ n + v) s))
   unfolding θ
-  total s = total-parity (n + 1) (construction n f) (sound-construction n f) s ∙ construction-sum n f (λ m a. a * dot m s) (ap (theta n f 0 *_) (dot-none s) ∙ mul-zero (theta n f 0))
+  total s = plain-total (n + 1) (construction n f) (sound-construction n f) (admitted-construction 1 n f) s ∙ construction-sum n f (λ m a. a * dot m s) (ap (theta n f 0 *_) (dot-none s) ∙ mul-zero (theta n f 0))
 
   two-to-n : dot (2 ^ n) x ≡ 0
   two-to-n = ap (λ (m : ℕ). dot m x) (sym (add-zero (2 ^ n))) ∙ dot-high-low n 0 x (pow-pos n) hx ∙ dot-none x

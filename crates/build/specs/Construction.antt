@@ -48,9 +48,9 @@ target n angleAt = block n (λ v. minus (angleAt v))
 unfoldable pub construction : ℕ → (ℕ → ℕ) → List Gate
 construction n f = firstQuarter n ++ variables n (theta n f) ++ target n (theta n f)
 
--- "Wires 0 to n-1 carry the variables, wire n the target y."
+-- "Wires 0 to n-1 carry the variables, wire n the target y."; 02 §12, "the builders write 1"
 abbrev pub builtFile : ℕ → List ℕ → List ℕ
-builtFile n t = fileOf (n + 1) (construction n (valueAt t))
+builtFile n t = fileOf 1 (n + 1) (construction n (valueAt t))
 
 -- rows 1 to 3, then 13 where out is shorter than the file: "the file is 2^(n+4) bytes"
 abbrev pub buildChecks : ℕ → List ℕ → ℕ → List Check

@@ -45,10 +45,10 @@ fn write_file(n: u8, theta: &[u16], minus: &[u16], out: &mut [u8])
     requires { ⌜ 2 ^ n ≤ length (now theta) ⌝ }
     requires { ⌜ 2 ^ n ≤ length (now minus) ⌝ }
     requires { ⌜ 2 ^ (n + 4) ≤ length (now out) ⌝ }
-    ensures { λ _. ⌜ now (out .exit) ≡ putAt (fileOf (n + 1) (parts n (λ k. getD (now (theta .entry)) k 0) (λ v. getD (now (minus .entry)) (0 + v) 0))) 0 (now (out .entry)) ⌝ }
+    ensures { λ _. ⌜ now (out .exit) ≡ putAt (fileOf 1 (n + 1) (parts n (λ k. getD (now (theta .entry)) k 0) (λ v. getD (now (minus .entry)) (0 + v) 0))) 0 (now (out .entry)) ⌝ }
 {
     let gates = numbers::power(n + 2) - 2;
-    circuit::put_header(n + 1, gates as u16, out);
+    circuit::put_header(1, n + 1, gates as u16, out);
     let at = block::first_quarter(n, out, 8);
     let at = block::variables(n, theta, out, at);
     block::block(n, minus, 0, out, at);

@@ -1,5 +1,5 @@
 -- The operation's three ways out.
-use Prim.Native.Nat.{ℕ, _+_, _*_, _^_, _<_, _≤_}
+use Prim.Native.Nat.{ℕ, suc, _+_, _*_, _^_, _<_, _≤_}
 use native.Mathlib.Nat.{zero-add}
 use native.Mathlib.Omega.{arith}
 use mathlib.Core.Path.{_≡_, refl, sym, ap, ap₂, _∙_}
@@ -15,18 +15,19 @@ use Rattle.refusal.specs.Contract.{values}
 use Rattle.refusal.proofs.Rooms.{earlier-refused, room-refused, room-enough}
 use Rattle.circuit.specs.Bytes.{putAt, Bytes}
 use Rattle.circuit.specs.Gates.{bytesOf}
-use Rattle.circuit.specs.File.{wiresOf, gatesOf, fileChecks, fileOf, headerBytes}
-use Rattle.running.specs.Run.{freeTurn, scores, cnots, score}
+use Rattle.circuit.specs.File.{versionOf, wiresOf, gatesOf, fileChecks, fileOf, headerBytes}
+use Rattle.running.specs.Run.{freeTurn, scores, cnots, score, inverters}
 use Rattle.circuit.proofs.Callers.{good-file}
 use Rattle.circuit.proofs.Files.{length-file}
 use Rattle.circuit.proofs.Writing.{put-fits, put-put}
 use Rattle.fold.specs.declared.Folded.{Folded}
 use Rattle.fold.specs.declared.Folded.the-variants.{File, Refused}
-use Rattle.running.specs.Masks.{mostWires, mostMasks}
-use Rattle.running.specs.Groups.{groupTotal, totalsOf}
+use Rattle.running.specs.Masks.{mostWires}
+use Rattle.running.specs.Groups.{mostGroups, totalsOf}
 use Rattle.running.proofs.Groups.{total-at}
 use Rattle.fold.specs.Fold.{folded, foldedFile, foldedSays, Folds}
 use Rattle.fold.specs.Working.{staying, keptIn, scoreIn}
+use Rattle.fold.proofs.Positions.{totalAt}
 use Rattle.fold.proofs.Scores.{score-of-totals, length-folded}
 use Rattle.fold.proofs.Files.{few-gates}
 use Rattle.fold.proofs.Callers.{foldValues}
@@ -44,31 +45,34 @@ module _ (f before : List ℕ) where
     answered h r l b a d p q s after t =
         room-enough foldedSays (fileChecks 0 f) (length (foldedFile f)) (foldValues f) (foldedFile f) before e h r after (ap foldedSays d ∙ (λ i. values (p i ∷ q i ∷ s i ∷ []))) t
 
+length-totals : (f : List ℕ) → length (totalsOf f) ≡ mostGroups
+unfolding totalsOf
+length-totals f = length-list mostGroups (totalAt (wiresOf f) (gatesOf f))
+
 -- what is known once the totals are tallied: how long the folded file will be, and what it scores
-pub record Room (f : List ℕ) (crossing stay scored : ℕ) : Type 0 where
+pub record Room (f : List ℕ) (moves stay scored : ℕ) : Type 0 where
   pub after : scored ≡ score (folded (wiresOf f) (gatesOf f))
-  pub kept : crossing + stay ≡ length (folded (wiresOf f) (gatesOf f))
-  pub few : crossing + stay ≤ 2048
-  pub whole : 8 + 4 * (crossing + stay) ≡ length (foldedFile f)
+  pub kept : moves + stay ≡ length (folded (wiresOf f) (gatesOf f))
+  pub few : moves + stay ≤ 2048
+  pub whole : 8 + 4 * (moves + stay) ≡ length (foldedFile f)
 
 module _ (f : List ℕ) (bytes : Bytes f) (e : outcome (fileChecks 0 f) ≡ passed) (ts : List ℕ) (t : ts ≡ totalsOf f) where
   -- a sum over the row is one over the groups
-  of-totals : (h : ℕ → ℕ) → sum (length ts) (λ m. h (getD ts m 0)) ≡ sum (2 ^ mostWires) (λ m. h (groupTotal (wiresOf f) (gatesOf f) m))
+  of-totals : (h : ℕ → ℕ) → sum (length ts) (λ n. h (getD ts n 0)) ≡ sum (2 ^ suc mostWires) (λ n. h (totalAt (wiresOf f) (gatesOf f) n))
   of-totals h =
-      rw t
-      (ap (λ (n : ℕ). sum n (λ m. h (getD (totalsOf f) m 0))) (length-list mostMasks (groupTotal (wiresOf f) (gatesOf f)))
-      ∙ sumOf-ext 0 _+_ mostMasks (λ m. h (getD (totalsOf f) m 0)) (λ m. h (groupTotal (wiresOf f) (gatesOf f) m)) (λ m l. ap h (total-at f (good-file 0 f e .few) m)))
+      ap (λ (l : List ℕ). sum (length l) (λ n. h (getD l n 0))) t ∙ ap (λ (k : ℕ). sum k (λ n. h (getD (totalsOf f) n 0))) (length-totals f)
+      ∙ sumOf-ext 0 _+_ mostGroups (λ n. h (getD (totalsOf f) n 0)) (λ n. h (totalAt (wiresOf f) (gatesOf f) n)) (λ n l. ap h (total-at f (good-file 0 f e .few) n))
 
-  pub room : (crossing stay scored : ℕ) → crossing ≡ cnots (gatesOf f) → stay ≡ keptIn ts → scored ≡ scoreIn ts → Room f crossing stay scored
-  room crossing stay scored p q r =
+  pub room : (moves stay scored : ℕ) → moves ≡ cnots (gatesOf f) + inverters (gatesOf f) → stay ≡ keptIn ts → scored ≡ scoreIn ts → Room f moves stay scored
+  room moves stay scored p q r =
       let few = good-file 0 f e .few in
       let gs = folded (wiresOf f) (gatesOf f) in
-      let k : crossing + stay ≡ length gs = ap₂ _+_ p (q ∙ of-totals staying) ∙ sym (length-folded (wiresOf f) (gatesOf f) mostWires few) in
+      let k : moves + stay ≡ length gs = ap₂ _+_ p (q ∙ of-totals staying) ∙ sym (length-folded (wiresOf f) (gatesOf f) mostWires few) in
       record {
         after = r ∙ of-totals (scores freeTurn) ∙ sym (score-of-totals (wiresOf f) (gatesOf f) freeTurn mostWires few);
         kept = k;
         few = omega (arith, few-gates 0 f bytes e);
-        whole = ap (λ (n : ℕ). 8 + 4 * n) k ∙ sym (length-file (wiresOf f) gs);
+        whole = ap (λ (n : ℕ). 8 + 4 * n) k ∙ sym (length-file (versionOf f) (wiresOf f) gs);
       }
 
 -- the header, then the gates behind it, are the folded file
@@ -77,11 +81,11 @@ module _ (f before : List ℕ) (fits : length (foldedFile f) ≤ length before) 
   unfolding fileOf
   room-behind = omega arith
 
-  pub file-written : (kept : ℕ) (half after : List ℕ) → kept ≡ length (folded (wiresOf f) (gatesOf f)) → half ≡ putAt (headerBytes (wiresOf f) kept) 0 before
+  pub file-written : (version kept : ℕ) (half after : List ℕ) → version ≡ versionOf f → kept ≡ length (folded (wiresOf f) (gatesOf f)) → half ≡ putAt (headerBytes version (wiresOf f) kept) 0 before
       → after ≡ putAt (bytesOf (folded (wiresOf f) (gatesOf f))) 8 half → after ≡ foldedFile f ++ drop (length (foldedFile f)) before
   unfolding fileOf
-  file-written kept half after e p q =
+  file-written version kept half after v e p q =
       let gs = folded (wiresOf f) (gatesOf f) in
-      q ∙ ap (putAt (bytesOf gs) 8) (p ∙ ap (λ (n : ℕ). putAt (headerBytes (wiresOf f) n) 0 before) e)
-      ∙ put-put (headerBytes (wiresOf f) (length gs)) (bytesOf gs) 0 before (rw (zero-add (length (foldedFile f))) fits)
+      q ∙ ap (putAt (bytesOf gs) 8) (p ∙ ap₂ (λ (u n : ℕ). putAt (headerBytes u (wiresOf f) n) 0 before) v e)
+      ∙ put-put (headerBytes (versionOf f) (wiresOf f) (length gs)) (bytesOf gs) 0 before (rw (zero-add (length (foldedFile f))) fits)
       ∙ put-fits (foldedFile f) 0 before (rw (zero-add (length (foldedFile f))) fits) ∙ ap (λ (n : ℕ). foldedFile f ++ drop n before) (zero-add (length (foldedFile f)))

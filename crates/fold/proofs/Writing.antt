@@ -7,7 +7,7 @@ use mathlib.Core.List.{List, [], _∷_, _++_}
 use lib.ListN.{length, getD, set, List·getD-eq-default}
 use lib.Seq.{getD-set-same, getD-set-other, set-out}
 use Rattle.circuit.specs.declared.Gate.{Gate}
-use Rattle.circuit.specs.declared.Gate.the-variants.{Cnot, Phase}
+use Rattle.circuit.specs.declared.Gate.the-variants.{Cnot, Phase, Inverter}
 use Rattle.circuit.specs.Bytes.{Bytes, putAt}
 use Rattle.circuit.specs.Gates.{gateBytes, bytesOf}
 use Rattle.circuit.specs.File.{wiresOf, gatesOf}
@@ -16,8 +16,9 @@ use Rattle.circuit.proofs.Decoding.{bytes-one, bytes-append, length-bytes}
 use Rattle.circuit.proofs.Callers.{GoodFile}
 use Rattle.circuit.proofs.Files.{file-sound}
 use Rattle.circuit.proofs.Parts.{wrote-nothing}
-use Rattle.running.specs.Masks.{mostWires, ownMasks, masksAfter, met}
-use Rattle.running.specs.Groups.{groupTotal, totalsOf}
+use Rattle.running.specs.Masks.{mostWires}
+use Rattle.running.specs.Working.{ownNumbers, numbersAfter, met}
+use Rattle.running.specs.Groups.{totalsOf}
 use Rattle.running.proofs.Masks.{own-alike}
 use Rattle.running.proofs.Groups.{total-at}
 use Rattle.fold.specs.Fold.{folded}
@@ -25,16 +26,17 @@ use Rattle.fold.specs.Working.{takenFrom, found, left, leaves, foldStep,
 use Rattle.fold.specs.declared.writer.Left.{Left}
 use Rattle.fold.specs.declared.writer.Left.the-variants.{Stays, Goes}
 use Rattle.fold.proofs.Remaining.{cleared, takes, after, remains, remains-alike, same-function, cleared-own, cleared-other}
-use Rattle.fold.proofs.Positions.{folded-remains}
+use Rattle.fold.proofs.Positions.{totalAt, folded-remains}
 
 abbrev entry : List ℕ → ℕ → ℕ
 entry totals m = getD totals m 0
 
--- the row as a function of the mask, after a gate and where it looks
-module _ (totals masks : List ℕ) where
-  taken-entry : (g : Gate) → entry (takenFrom (met g masks) totals) ≡ after (entry totals) (met g masks)
+-- the row as a function of the number, after a gate and where it looks
+module _ (totals held : List ℕ) where
+  taken-entry : (g : Gate) → entry (takenFrom (met g held) totals) ≡ after (entry totals) (met g held)
   taken-entry (Cnot c t) = refl
-  taken-entry (Phase i a) = let k = getD masks i 0 in same-function (entry (set totals k 0)) (cleared (entry totals) k) (λ m. by k m (ℕ-discrete m k) (decLt k (length totals)))
+  taken-entry (Inverter i) = refl
+  taken-entry (Phase i a) = let k = getD held i 0 in same-function (entry (set totals k 0)) (cleared (entry totals) k) (λ m. by k m (ℕ-discrete m k) (decLt k (length totals)))
     where
       by : (k m : ℕ) → Dec (m ≡ k) → Dec (k < length totals) → entry (set totals k 0) m ≡ cleared (entry totals) k m
       by k m (no e) d = getD-set-other totals k m 0 0 e ∙ sym (cleared-other (entry totals) k m e)
@@ -42,30 +44,31 @@ module _ (totals masks : List ℕ) where
       by k m (yes e) (no l) =
           ap (λ (t : List ℕ). entry t m) (set-out totals k 0 (omega arith)) ∙ List·getD-eq-default totals 0 {n = m} (omega arith) ∙ sym (cleared-own (entry totals) k m e)
 
-  found-entry : (g : Gate) → found (met g masks) totals ≡ takes (entry totals) (met g masks)
+  found-entry : (g : Gate) → found (met g held) totals ≡ takes (entry totals) (met g held)
   found-entry (Cnot c t) = refl
   found-entry (Phase i a) = refl
+  found-entry (Inverter i) = refl
 
-written-remains : (gs : List Gate) (masks totals : List ℕ) → written foldStep foldPut gs (masks, totals) ≡ bytesOf (remains (entry totals) gs masks)
+written-remains : (gs : List Gate) (held totals : List ℕ) → written foldStep foldPut gs (held, totals) ≡ bytesOf (remains (entry totals) gs held)
 unfolding written remains bytesOf
-written-remains [] masks totals = refl
-written-remains (g ∷ gs) masks totals =
-    let masks′ = masksAfter g masks in
-    let totals′ = takenFrom (met g masks) totals in
-    ap₂ _++_ (ap (λ (t : ℕ). bytesOf (left t g)) (found-entry totals masks g))
-    (written-remains gs masks′ totals′ ∙ ap (λ (T : ℕ → ℕ). bytesOf (remains T gs masks′)) (taken-entry totals masks g))
-    ∙ sym (bytes-append (left (takes (entry totals) (met g masks)) g) (remains (after (entry totals) (met g masks)) gs masks′))
+written-remains [] held totals = refl
+written-remains (g ∷ gs) held totals =
+    let held′ = numbersAfter g held in
+    let totals′ = takenFrom (met g held) totals in
+    ap₂ _++_ (ap (λ (t : ℕ). bytesOf (left t g)) (found-entry totals held g))
+    (written-remains gs held′ totals′ ∙ ap (λ (T : ℕ → ℕ). bytesOf (remains T gs held′)) (taken-entry totals held g))
+    ∙ sym (bytes-append (left (takes (entry totals) (met g held)) g) (remains (after (entry totals) (met g held)) gs held′))
 
--- from the groups' totals and the own masks, they are the folded gates
-pub written-folded : (f : List ℕ) → Bytes f → GoodFile f → (masks totals : List ℕ) → masks ≡ ownMasks mostWires → totals ≡ totalsOf f
-    → written foldStep foldPut (gatesOf f) (masks, totals) ≡ bytesOf (folded (wiresOf f) (gatesOf f))
-written-folded f bytes good masks totals p q =
+-- from the groups' totals and what each wire holds at first, they are the folded gates
+pub written-folded : (f : List ℕ) → Bytes f → GoodFile f → (held totals : List ℕ) → held ≡ ownNumbers mostWires → totals ≡ totalsOf f
+    → written foldStep foldPut (gatesOf f) (held, totals) ≡ bytesOf (folded (wiresOf f) (gatesOf f))
+written-folded f bytes good held totals p q =
     let w = wiresOf f in
     let gs = gatesOf f in
-    written-remains gs masks totals
+    written-remains gs held totals
     ∙ ap bytesOf
-    (ap₂ (λ (T : ℕ → ℕ) (ms : List ℕ). remains T gs ms) (ap entry q ∙ same-function (entry (totalsOf f)) (groupTotal w gs) (total-at f (good .few))) p
-    ∙ remains-alike (groupTotal w gs) w gs (ownMasks mostWires) (ownMasks w) (file-sound f bytes good) (own-alike mostWires w (good .few)) ∙ sym (folded-remains w gs))
+    (ap₂ (λ (T : ℕ → ℕ) (ms : List ℕ). remains T gs ms) (ap entry q ∙ same-function (entry (totalsOf f)) (totalAt w gs) (total-at f (good .few))) p
+    ∙ remains-alike (totalAt w gs) w gs (ownNumbers mostWires) (ownNumbers w) (file-sound f bytes good) (own-alike mostWires w (good .few)) ∙ sym (folded-remains w gs))
 
 -- what is left of one gate: its bytes, or none
 module _ (l : Left) (at : ℕ) (out : List ℕ) where

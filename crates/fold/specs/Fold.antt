@@ -5,10 +5,10 @@ use lib.ListN.{length}
 use Rattle.refusal.specs.Checks.{Check, outcome, roomCheck}
 use Rattle.refusal.specs.Contract.{Said, values, saidOf, Meets}
 use Rattle.circuit.specs.declared.Gate.{Gate}
-use Rattle.circuit.specs.declared.Gate.the-variants.{Cnot, Phase}
-use Rattle.circuit.specs.File.{wiresOf, gatesOf, fileChecks, fileOf}
+use Rattle.circuit.specs.declared.Gate.the-variants.{Cnot, Phase, Inverter}
+use Rattle.circuit.specs.File.{versionOf, wiresOf, gatesOf, fileChecks, fileOf}
 use Rattle.running.specs.Run.{score}
-use Rattle.running.specs.Groups.{groupTotal, maskAt, earlier}
+use Rattle.running.specs.Groups.{groupTotal, heldBefore, earlier}
 use Rattle.fold.specs.declared.Folded.{Folded}
 use Rattle.fold.specs.declared.Folded.the-variants.{File, Refused}
 
@@ -22,23 +22,24 @@ abbrev pub firstOnly : ℕ → List Gate → List Gate
 firstOnly zero gs = gs
 firstOnly (suc n) gs = []
 
--- "The group's first gate stays in its place with the wrapped sum of the group"; "CNOTs stay"
+-- "The group's first gate stays in its place with the wrapped sum of the group"; "CNOTs stay", and so do inverters
 abbrev pub becomes : ℕ → List Gate → ℕ → Gate → List Gate
 becomes w gs p (Cnot c t) = Cnot c t ∷ []
-becomes w gs p (Phase i a) = firstOnly (earlier w gs p (maskAt w gs p i)) (kept i (groupTotal w gs (maskAt w gs p i)))
+becomes w gs p (Phase i a) = firstOnly (earlier w gs p (heldBefore w gs p i)) (kept i (groupTotal w gs (heldBefore w gs p i)))
+becomes w gs p (Inverter i) = Inverter i ∷ []
 
 -- "in order": what becomes of the gates from position p on
 unfoldable pub foldedFrom : ℕ → List Gate → ℕ → List Gate → List Gate
 foldedFrom w gs p [] = []
 foldedFrom w gs p (g ∷ rest) = becomes w gs p g ++ foldedFrom w gs (suc p) rest
 
--- "Folding: phase gates met at the same mask are one group": all gates of a list on w wires
+-- "Folding: phase gates met at the same mask are one group", by 02 §12 "where mask and flip both agree": all gates of a list on w wires
 abbrev pub folded : ℕ → List Gate → List Gate
 folded w gs = foldedFrom w gs 0 gs
 
--- "the new file", on the same wires
+-- "the new file", on the same wires; 02 §12, "Folding .. write[s] the input's version"
 abbrev pub foldedFile : List ℕ → List ℕ
-foldedFile f = fileOf (wiresOf f) (folded (wiresOf f) (gatesOf f))
+foldedFile f = fileOf (versionOf f) (wiresOf f) (folded (wiresOf f) (gatesOf f))
 
 -- rows 4 to 10, then 13 "output slice shorter than this call's result"
 abbrev pub foldChecks : List ℕ → ℕ → List Check

@@ -1,21 +1,20 @@
-// The totals of the groups, one for each mask: how many stay, and what they score.
+// The totals of the groups, one for each mask and flip: how many stay, and what they score.
 ghost use mathlib.Core.Path.{_≡_};
 ghost use Prim.Native.Nat.{_≤_};
 ghost use lib.ListN.{length};
 ghost use Rattle.refusal.specs.Checks.{outcome, passed};
 ghost use Rattle.circuit.specs.File.{fileChecks};
-ghost use Rattle.running.specs.Masks.{mostMasks};
-ghost use Rattle.running.specs.Groups.{totalsOf};
+ghost use Rattle.running.specs.Groups.{mostGroups, totalsOf};
 ghost use Rattle.fold.specs.Working.{staying, keptIn, scoreIn};
 
-// The wrapped sum of each mask's group.
-pub(crate) fn totals_of(file: &[u8]) -> [u16; running::MASKS]
+// The wrapped sum of each group.
+pub(crate) fn totals_of(file: &[u8]) -> [u16; running::GROUPS]
     requires { ⌜ outcome (fileChecks 0 (now file)) ≡ passed ⌝ }
     ensures { λ r. ⌜ r ≡ totalsOf (now (file .entry)) ⌝ }
 {
-    let mut totals = [0u16; running::MASKS];
-    let mut masks = [0u16; running::WIRES];
-    running::sum_groups(file, 0, &mut totals, &mut masks);
+    let mut totals = [0u16; running::GROUPS];
+    let mut held = [0u16; running::WIRES];
+    running::sum_groups(file, 0, &mut totals, &mut held);
     totals
 }
 
@@ -33,17 +32,17 @@ fn stays(total: u16) -> u16
 }
 
 pub(crate) fn tally_of(totals: &[u16]) -> Tally
-    requires { ⌜ length (now totals) ≤ mostMasks ⌝ }
+    requires { ⌜ length (now totals) ≤ mostGroups ⌝ }
     ensures { λ r. ⌜ (r .kept ≡ keptIn (now (totals .entry))) × (r .score ≡ scoreIn (now (totals .entry))) ⌝ }
 {
     let mut kept: u16 = 0;
     let mut score: u16 = 0;
-    let mut m: usize = 0;
-    while m < totals.len() {
-        let total = totals[m];
+    let mut n: usize = 0;
+    while n < totals.len() {
+        let total = totals[n];
         kept += stays(total);
         score += running::scored(total);
-        m += 1;
+        n += 1;
     }
     Tally { kept, score }
 }

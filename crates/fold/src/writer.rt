@@ -8,7 +8,7 @@ ghost use Rattle.circuit.specs.Working.{Wrote};
 ghost use Rattle.circuit.specs.Bytes.{putAt};
 ghost use Rattle.circuit.specs.Gates.{bytesOf};
 ghost use Rattle.circuit.specs.File.{wiresOf, countOf, gatesOf, fileChecks};
-ghost use Rattle.running.specs.Masks.{met, masksAfter};
+ghost use Rattle.running.specs.Working.{met, numbersAfter};
 ghost use Rattle.running.specs.Groups.{totalsOf};
 ghost use Rattle.fold.specs.Fold.{folded, kept};
 ghost use Rattle.fold.specs.Working.{takenFrom, found, left, leaves};
@@ -19,15 +19,15 @@ enum Left {
     Goes,
 }
 
-// Takes a mask's total: the entry becomes 0, so that later gates of the group find 0.
-fn take(totals: &mut [u16], mask: u16) -> u16
-    ensures { λ r. ⌜ r ≡ getD (now (totals .entry)) mask 0 ⌝ }
-    ensures { λ r. ⌜ now (totals .exit) ≡ set (now (totals .entry)) mask 0 ⌝ }
+// Takes a group's total: the entry becomes 0, so that later gates of the group find 0.
+fn take(totals: &mut [u16], group: u16) -> u16
+    ensures { λ r. ⌜ r ≡ getD (now (totals .entry)) group 0 ⌝ }
+    ensures { λ r. ⌜ now (totals .exit) ≡ set (now (totals .entry)) group 0 ⌝ }
 {
-    let m = mask as usize;
-    if m < totals.len() {
-        let total = totals[m];
-        totals[m] = 0;
+    let n = group as usize;
+    if n < totals.len() {
+        let total = totals[n];
+        totals[n] = 0;
         return total;
     }
     0
@@ -44,19 +44,23 @@ fn phase(wire: u8, total: u16) -> Left
 }
 
 // What becomes of a gate whose group's total is taken from the row.
-fn fold_gate(gate: Gate, masks: &mut [u16], totals: &mut [u16]) -> Left
-    ensures { λ _. ⌜ now (masks .exit) ≡ masksAfter gate (now (masks .entry)) ⌝ }
-    ensures { λ _. ⌜ now (totals .exit) ≡ takenFrom (met gate (now (masks .entry))) (now (totals .entry)) ⌝ }
-    ensures { λ r. ⌜ leaves r ≡ left (found (met gate (now (masks .entry))) (now (totals .entry))) gate ⌝ }
+fn fold_gate(gate: Gate, held: &mut [u16], totals: &mut [u16]) -> Left
+    ensures { λ _. ⌜ now (held .exit) ≡ numbersAfter gate (now (held .entry)) ⌝ }
+    ensures { λ _. ⌜ now (totals .exit) ≡ takenFrom (met gate (now (held .entry))) (now (totals .entry)) ⌝ }
+    ensures { λ r. ⌜ leaves r ≡ left (found (met gate (now (held .entry))) (now (totals .entry))) gate ⌝ }
 {
     match gate {
         Gate::Cnot { control, target } => {
-            running::mix(masks, control, target);
-            Left::Stays(gate)
+            running::mix(held, control, target);
+            Left::Stays(Gate::Cnot { control, target })
         }
         Gate::Phase { wire, angle: _ } => {
-            let mask = running::mask_at(masks, wire);
-            phase(wire, take(totals, mask))
+            let group = running::held_at(held, wire);
+            phase(wire, take(totals, group))
+        }
+        Gate::Inverter { wire } => {
+            running::invert(held, wire);
+            Left::Stays(Gate::Inverter { wire })
         }
     }
 }
@@ -82,12 +86,12 @@ pub(crate) fn write_gates(file: &[u8], gates: usize, totals: &mut [u16], out: &m
     requires { ⌜ 8 + length (bytesOf (folded (wiresOf (now file)) (gatesOf (now file)))) ≤ length (now out) ⌝ }
     ensures { λ _. ⌜ now (out .exit) ≡ putAt (bytesOf (folded (wiresOf (now (file .entry))) (gatesOf (now (file .entry))))) 8 (now (out .entry)) ⌝ }
 {
-    let mut masks = running::own_masks();
+    let mut held = running::own_held();
     let mut at: usize = 8;
     let mut i: usize = 0;
     while i < gates {
         let gate = circuit::good_gate(file, i);
-        let left = fold_gate(gate, &mut masks, totals);
+        let left = fold_gate(gate, &mut held, totals);
         at = put_left(left, out, at);
         i += 1;
     }

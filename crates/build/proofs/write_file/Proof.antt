@@ -30,7 +30,7 @@ abbrev target : tie.Start → List ℕ
 target s = bytesOf (block (s .args .n) (third s))
 
 abbrev whole : tie.Start → List ℕ
-whole s = fileOf (s .args .n + 1) (parts (s .args .n) (second s) (third s))
+whole s = fileOf 1 (s .args .n + 1) (parts (s .args .n) (second s) (third s))
 
 -- ---- the header
 
@@ -63,11 +63,11 @@ put-header-requires c κs = search needs
 abbrev before-header : tie.After-put-header → tie.Start
 before-header c = start (c .before .before)
 
-header-done : (c : tie.After-put-header) → let s = before-header c in Left (whole s) 0 (s .args .out .now) (quarter s ++ (wires s ++ target s)) 8 (c .put-header .last .1 .1 .0)
+header-done : (c : tie.After-put-header) → let s = before-header c in Left (whole s) 0 (s .args .out .now) (quarter s ++ (wires s ++ target s)) 8 (c .put-header .last .1 .1 .1 .0)
 header-done c =
     let s = before-header c in
     let p = c .before .before .power in
-    less-left (headerBytes (s .args .n + 1) (p .result - 2)) (quarter s ++ (wires s ++ target s))
+    less-left (headerBytes 1 (s .args .n + 1) (p .result - 2)) (quarter s ++ (wires s ++ target s))
     (file-left (s .args .n) (second s) (third s) (s .pre .0) (s .pre .1 .0) (p .result) (p .ensures) (s .args .out .now) (s .pre .1 .1 .1 .1)) (record { ends = refl; written = c .put-header .ensures })
 
 first-quarter-requires : tie.Need-first-quarter-requires

@@ -1,11 +1,14 @@
 use Rattle.fold.specs.Working.{leaves}
-use Rattle.fold.proofs.Stepping.{cnot-stays, total-taken}
+use Rattle.fold.proofs.Stepping.{cnot-stays, inverter-stays, total-taken}
 use borrow.Author.Needs.{needs}
 use Rattle.fold.proofs.writer.fold_gate.Statement.{statement}
 use Rattle.fold.proofs.writer.fold_gate.Tie as tie
 
 abbrev crossing : tie.After-mix → tie.Start
 crossing c = c .before .before .before .before .before .before .before
+
+abbrev turning : tie.After-invert → tie.Start
+turning c = c .before .before .before .before .before .before .before
 
 abbrev meeting : tie.After-gate2 → tie.Start
 meeting c = c .before .before .before .before
@@ -19,14 +22,20 @@ mix-requires c κs = search needs
 enum-known-gate-2 : tie.Need-enum-known-gate-2
 enum-known-gate-2 c = search needs
 
-mask-at-requires : tie.Need-mask-at-requires
-mask-at-requires c κs = search needs
+held-at-requires : tie.Need-held-at-requires
+held-at-requires c κs = search needs
 
 take-requires : tie.Need-take-requires
 take-requires c κs = search needs
 
 phase-requires : tie.Need-phase-requires
 phase-requires c κs = search needs
+
+enum-known-gate-3 : tie.Need-enum-known-gate-3
+enum-known-gate-3 c = search needs
+
+invert-requires : tie.Need-invert-requires
+invert-requires c κs = search needs
 
 same-length : tie.Need-same-length
 same-length c = search needs
@@ -36,7 +45,7 @@ returns c =
     let done = c .before .before in
     let a = crossing done .args in
     let v = done .before .before .before .gate .given in
-    cnot-stays (a .gate) (a .masks .now) (a .totals .now) (v .0 .0) (v .0 .1 .0) (done .mix .last .0) (v .1) (done .mix .ensures)
+    cnot-stays (a .gate) (a .held .now) (a .totals .now) (v .0 .0) (v .0 .1 .0) (done .mix .last .0) (v .1) (done .mix .ensures)
 
 same-length-2 : tie.Need-same-length-2
 same-length-2 c = search needs
@@ -51,7 +60,17 @@ returns-2 c =
     let told = met .before .before .before in
     let a = meeting told .args in
     let v = told .gate2 .given in
-    total-taken (a .gate) (a .masks .now) (a .totals .now) (v .0 .0) (v .0 .1 .0) (met .mask-at .result) (took .take .result) (took .take .last .0) (leaves (c .phase .result)) (v .1) (met .mask-at .ensures) (took .take .ensures .0) (took .take .ensures .1) (c .phase .ensures)
+    total-taken (a .gate) (a .held .now) (a .totals .now) (v .0 .0) (v .0 .1 .0) (met .held-at .result) (took .take .result) (took .take .last .0) (leaves (c .phase .result)) (v .1) (met .held-at .ensures) (took .take .ensures .0) (took .take .ensures .1) (c .phase .ensures)
+
+same-length-4 : tie.Need-same-length-4
+same-length-4 c = search needs
+
+returns-3 : tie.Need-returns-3
+returns-3 c =
+    let done = c .before .before in
+    let a = turning done .args in
+    let v = done .before .before .before .gate3 .given in
+    inverter-stays (a .gate) (a .held .now) (a .totals .now) (v .0 .0) (done .invert .last .0) (v .1) (done .invert .ensures)
 
 pub fold-gate-spec : {M : Type 1} → statement M
 fold-gate-spec =
@@ -60,11 +79,15 @@ fold-gate-spec =
     enum-known-gate
     mix-requires
     enum-known-gate-2
-    mask-at-requires
+    held-at-requires
     take-requires
     phase-requires
+    enum-known-gate-3
+    invert-requires
     same-length
     returns
     same-length-2
     same-length-3
-    returns-2)
+    returns-2
+    same-length-4
+    returns-3)

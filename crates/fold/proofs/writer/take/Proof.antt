@@ -26,7 +26,7 @@ returns c = search needs
 returns-2 : tie.Need-returns-2
 returns-2 c =
     let a = c .before .args in
-    (sym (List·getD-eq-default (a .totals .now) 0 {n = a .mask} (c .if1 .left)), sym (set-out (a .totals .now) (a .mask) 0 (c .if1 .left)))
+    (sym (List·getD-eq-default (a .totals .now) 0 {n = a .group} (c .if1 .left)), sym (set-out (a .totals .now) (a .group) 0 (c .if1 .left)))
 
 pub take-spec : {M : Type 1} → statement M
 take-spec =

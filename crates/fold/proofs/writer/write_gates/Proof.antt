@@ -8,7 +8,7 @@ use Rattle.circuit.specs.Gates.{bytesOf}
 use Rattle.circuit.proofs.Callers.{GoodFile, good-file}
 use Rattle.circuit.proofs.Parts.{wrote-same, room-same}
 use Rattle.circuit.proofs.Walks.{Writing, writing-starts, writing-room, writing-goes-on, writing-ends}
-use Rattle.running.specs.Masks.{met}
+use Rattle.running.specs.Working.{met}
 use Rattle.running.proofs.Masks.{length-after}
 use Rattle.fold.specs.Working.{foldStep, foldPut}
 use Rattle.fold.proofs.Stepping.{fold-stepped, length-taken}
@@ -17,16 +17,16 @@ use Rattle.fold.proofs.writer.write_gates.Statement.{statement}
 use Rattle.fold.proofs.writer.write_gates.Tie as tie
 
 abbrev Inv-loop : tie.InvT-loop
-Inv-loop file gates totals₀ out₀ masks₀ at₀ i₀ totals out masks at i =
-    Writing foldStep foldPut file (masks₀, totals₀) (masks, totals) i 8 out₀ at out × (length masks ≡ length masks₀) × (length totals ≡ length totals₀)
+Inv-loop file gates totals₀ out₀ held₀ at₀ i₀ totals out held at i =
+    Writing foldStep foldPut file (held₀, totals₀) (held, totals) i 8 out₀ at out × (length held ≡ length held₀) × (length totals ≡ length totals₀)
 
 abbrev μ-loop : tie.MeasureT-loop
-μ-loop file gates totals₀ out₀ masks₀ at₀ i₀ totals out masks at i = gates - i
+μ-loop file gates totals₀ out₀ held₀ at₀ i₀ totals out held at i = gates - i
 
-abbrev start : tie.After-own-masks Inv-loop μ-loop → tie.Start Inv-loop μ-loop
+abbrev start : tie.After-own-held Inv-loop μ-loop → tie.Start Inv-loop μ-loop
 start c = c .before .before .before .before
 
-abbrev began : tie.At-loop Inv-loop μ-loop → tie.After-own-masks Inv-loop μ-loop
+abbrev began : tie.At-loop Inv-loop μ-loop → tie.After-own-held Inv-loop μ-loop
 began c = c .before
 
 abbrev loop : tie.After-good-gate Inv-loop μ-loop → tie.At-loop Inv-loop μ-loop
@@ -41,29 +41,29 @@ folded c = c .before .before .before .before
 abbrev put : tie.After-slice-known4 Inv-loop μ-loop → tie.After-put-left Inv-loop μ-loop
 put c = c .before .before
 
-bytes : (c : tie.After-own-masks Inv-loop μ-loop) → Bytes (start c .args .file .now)
+bytes : (c : tie.After-own-held Inv-loop μ-loop) → Bytes (start c .args .file .now)
 bytes c j = c .before .before .before .shared-slice-known .given j .fits
 
-good : (c : tie.After-own-masks Inv-loop μ-loop) → GoodFile (start c .args .file .now)
+good : (c : tie.After-own-held Inv-loop μ-loop) → GoodFile (start c .args .file .now)
 good c = good-file 0 (start c .args .file .now) (start c .pre .0 .0)
 
-own-masks-requires : tie.Need-own-masks-requires Inv-loop μ-loop
-own-masks-requires c κs = search needs
+own-held-requires : tie.Need-own-held-requires Inv-loop μ-loop
+own-held-requires c κs = search needs
 
 loop-holds : tie.Need-loop-holds Inv-loop μ-loop
 loop-holds c =
     let s = start c in
     let f = s .args .file .now in
-    let masks = c .own-masks .result in
+    let held = c .own-held .result in
     let totals = s .args .totals .now in
-    let e = written-folded f (bytes c) (good c) masks totals (c .own-masks .ensures) (s .pre .1 .0) in
-    (writing-starts foldStep foldPut f (masks, totals) 8 (s .args .out .now) (room-same 8 (s .args .out .now) e (s .pre .1 .1)), refl, refl)
+    let e = written-folded f (bytes c) (good c) held totals (c .own-held .ensures) (s .pre .1 .0) in
+    (writing-starts foldStep foldPut f (held, totals) 8 (s .args .out .now) (room-same 8 (s .args .out .now) e (s .pre .1 .1)), refl, refl)
 
 good-gate-requires : tie.Need-good-gate-requires Inv-loop μ-loop
 good-gate-requires c κs = search needs
 
 slice-aggregate-fold-gate : tie.Need-slice-aggregate-fold-gate Inv-loop μ-loop
-slice-aggregate-fold-gate c = let at = loop (c .before) in sym (at .loop .inv .1 ∙ ap length (began at .own-masks .ensures))
+slice-aggregate-fold-gate c = let at = loop (c .before) in sym (at .loop .inv .1 ∙ ap length (began at .own-held .ensures))
 
 fold-gate-requires : tie.Need-fold-gate-requires Inv-loop μ-loop
 fold-gate-requires c κs = search needs
@@ -76,7 +76,7 @@ put-left-requires c κs =
     let b = began at in
     let s = start b in
     room-same (at .loop .at) (at .loop .out) (ap bytesOf (d .fold-gate .ensures .1 .1))
-    (writing-room (s .args .file .now) (bytes b) (good b) (at .loop .i) (got .good-gate .result) (omega (arith, s .pre .0 .1)) (got .good-gate .ensures) foldStep (b .own-masks .result, s .args .totals .now) (at .loop .masks, at .loop .totals) foldPut 8 (s .args .out .now) (at .loop .at) (at .loop .out) (at .loop .inv .0))
+    (writing-room (s .args .file .now) (bytes b) (good b) (at .loop .i) (got .good-gate .result) (omega (arith, s .pre .0 .1)) (got .good-gate .ensures) foldStep (b .own-held .result, s .args .totals .now) (at .loop .held, at .loop .totals) foldPut 8 (s .args .out .now) (at .loop .at) (at .loop .out) (at .loop .inv .0))
 
 add-i : tie.Need-add-i Inv-loop μ-loop
 add-i c = omega arith
@@ -93,13 +93,13 @@ loop-again c =
     let b = began at in
     let s = start b in
     let g = got .good-gate .result in
-    let masks = d .fold-gate .last .1 .0 in
+    let held = d .fold-gate .last .1 .0 in
     let totals = d .fold-gate .last .1 .1 .0 in
     let e = d .fold-gate .ensures in (
-      writing-goes-on (s .args .file .now) (bytes b) (good b) (at .loop .i) g (omega (arith, s .pre .0 .1)) (got .good-gate .ensures) foldStep (b .own-masks .result, s .args .totals .now) (at .loop .masks, at .loop .totals) foldPut 8 (s .args .out .now) (at .loop .at) (at .loop .out) (at .loop .inv .0)
-          (masks, totals) (p .put-left .result) (p .put-left .last .1 .0) (fold-stepped g (at .loop .masks) (at .loop .totals) masks totals (e .0) (e .1 .0)) (wrote-same (ap bytesOf (e .1 .1)) (p .put-left .ensures)),
-      ap length (e .0) ∙ length-after g (at .loop .masks) ∙ at .loop .inv .1,
-      ap length (e .1 .0) ∙ length-taken (met g (at .loop .masks)) (at .loop .totals) ∙ at .loop .inv .2,
+      writing-goes-on (s .args .file .now) (bytes b) (good b) (at .loop .i) g (omega (arith, s .pre .0 .1)) (got .good-gate .ensures) foldStep (b .own-held .result, s .args .totals .now) (at .loop .held, at .loop .totals) foldPut 8 (s .args .out .now) (at .loop .at) (at .loop .out) (at .loop .inv .0)
+          (held, totals) (p .put-left .result) (p .put-left .last .1 .0) (fold-stepped g (at .loop .held) (at .loop .totals) held totals (e .0) (e .1 .0)) (wrote-same (ap bytesOf (e .1 .1)) (p .put-left .ensures)),
+      ap length (e .0) ∙ length-after g (at .loop .held) ∙ at .loop .inv .1,
+      ap length (e .1 .0) ∙ length-taken (met g (at .loop .held)) (at .loop .totals) ∙ at .loop .inv .2,
     )
 
 same-length : tie.Need-same-length Inv-loop μ-loop
@@ -114,10 +114,10 @@ returns c =
     let b = began at in
     let s = start b in
     let f = s .args .file .now in
-    let masks = b .own-masks .result in
+    let held = b .own-held .result in
     let totals = s .args .totals .now in
-    wrote-same (written-folded f (bytes b) (good b) masks totals (b .own-masks .ensures) (s .pre .1 .0))
-    (writing-ends f (bytes b) (good b) (at .loop .i) (omega (arith, s .pre .0 .1)) foldStep (masks, totals) (at .loop .masks, at .loop .totals) foldPut 8 (s .args .out .now) (at .loop .at) (at .loop .out) (at .loop .inv .0)) .written
+    wrote-same (written-folded f (bytes b) (good b) held totals (b .own-held .ensures) (s .pre .1 .0))
+    (writing-ends f (bytes b) (good b) (at .loop .i) (omega (arith, s .pre .0 .1)) foldStep (held, totals) (at .loop .held, at .loop .totals) foldPut 8 (s .args .out .now) (at .loop .at) (at .loop .out) (at .loop .inv .0)) .written
 
 pub write-gates-spec : {M : Type 1} → statement M
 write-gates-spec =
@@ -125,7 +125,7 @@ write-gates-spec =
     (tie.spec
     Inv-loop
     μ-loop
-    own-masks-requires
+    own-held-requires
     loop-holds
     good-gate-requires
     slice-aggregate-fold-gate
