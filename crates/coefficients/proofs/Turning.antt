@@ -17,7 +17,7 @@ use Rattle.numbers.proofs.Subsets.{sum-scale}
 use Rattle.table.specs.Table.{valueAt}
 use Rattle.running.specs.Masks.{mostMasks}
 use Rattle.running.proofs.Masks.{zeros}
-use Rattle.coefficients.specs.Coefficients.{listedStart, idealCoefficient, idealCoefficients}
+use Rattle.coefficients.specs.Coefficients.{listedStart, mostStarts, idealCoefficient, idealCoefficients}
 use Rattle.coefficients.specs.Working.{entry, gathered}
 use Rattle.coefficients.proofs.Ideals.{below-mark, with-mark}
 
@@ -72,7 +72,7 @@ module _ (n half : ℕ) (h : half ≡ 2 ^ n) (f : ℕ → ℕ) (row upper : List
       ∙ sym (ap (λ (m : ℕ). list (2 ^ m) (idealCoefficient n f)) (add-one n) ∙ ap (λ (m : ℕ). list m (idealCoefficient n f)) (two-pow-succ n) ∙ list-split (2 ^ n) (2 ^ n) (idealCoefficient n f))
 
 -- "ends as it starts": the first of the listed starts
-pub some-starts : (starts : List ℕ) (m : ℕ) → starts ≡ list 11 listedStart → m ≤ 11 → take m starts ≡ list m listedStart
+pub some-starts : (starts : List ℕ) (m : ℕ) → starts ≡ list mostStarts listedStart → m ≤ mostStarts → take m starts ≡ list m listedStart
 some-starts starts m e h =
     is-list 0 (take m starts) m listedStart (length-take-le m starts (omega (arith, ap length e)))
-    (λ i k. getD-take m starts i 0 k ∙ ap (λ (l : List ℕ). entry l i) e ∙ getD-list 11 listedStart i 0 (omega arith))
+    (λ i k. getD-take m starts i 0 k ∙ ap (λ (l : List ℕ). entry l i) e ∙ getD-list mostStarts listedStart i 0 (omega arith))

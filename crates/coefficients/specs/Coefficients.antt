@@ -32,6 +32,10 @@ abbrev pub listedStart : ℕ → ℕ
 listedStart zero = 0
 listedStart (suc i) = 2 ^ i
 
+-- so many on ten wires
+abbrev pub mostStarts : ℕ
+mostStarts = 11
+
 -- "A run answers the end state": the ends of a circuit's listed starts
 abbrev pub listedEnds : ℕ → List Gate → List ℕ
 listedEnds w gs = list (suc w) (λ i. endFrom gs (listedStart i))

@@ -1,4 +1,5 @@
 // The ideal of a table summed up.
+use crate::STARTS;
 use crate::empty;
 use crate::sums::gather;
 use table::Checked;
@@ -8,7 +9,7 @@ ghost use lib.ListN.{length};
 ghost use Rattle.numbers.specs.Sums.{list};
 ghost use Rattle.table.specs.Table.{valueAt};
 ghost use Rattle.circuit.specs.Bytes.{putAt};
-ghost use Rattle.coefficients.specs.Coefficients.{listedStart, idealCoefficient};
+ghost use Rattle.coefficients.specs.Coefficients.{listedStart, mostStarts, idealCoefficient};
 ghost use Rattle.coefficients.specs.Summaries.{SummarisesIdeal};
 
 // The ideal's coefficients and the ends of its listed starts, each at the front of a slice where they fit, or the
@@ -30,8 +31,8 @@ pub fn summarise_ideal(n: u8, table: &[u8], row: &mut [u16], ends: &mut [u16]) -
 }
 
 // Start 0, then each wire's own.
-fn listed_starts() -> [u16; 11]
-    ensures { λ r. ⌜ r ≡ list 11 listedStart ⌝ }
+fn listed_starts() -> [u16; STARTS]
+    ensures { λ r. ⌜ r ≡ list mostStarts listedStart ⌝ }
 {
     [0, 1, 2, 4, 8, 16, 32, 64, 128, 256, 512]
 }

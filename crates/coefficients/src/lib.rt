@@ -23,6 +23,9 @@ mod weights;
 pub use ideal::summarise_ideal;
 pub use summary::summarise;
 
+// The most starts whose ends a summary lists: start 0, and each of ten wires' own.
+pub const STARTS: usize = 11;
+
 // A row for the sets of ten wires, with nothing in it.
 pub(crate) fn empty() -> [u16; MASKS]
     ensures { λ r. ⌜ r ≡ replicate mostMasks 0 ⌝ }

@@ -1,28 +1,30 @@
--- The lowest place where coefficients or single-wire ends differ is the lowest start at which the sides part.
-use Prim.Native.Nat.{ℕ, zero, suc, _+_, _-_, _*_, _^_, _<_, _≤_, min}
+-- The lowest place where coefficients or listed ends differ is the lowest start at which the sides part.
+use Prim.Native.Nat.{ℕ, zero, suc, _+_, _-_, _*_, _%_, _^_, _<_, _≤_, min}
 use native.Mathlib.Nat.{one-mul, zero-mul, add-zero, add-comm, min-le-left, min-le-right, min-eq-left, min-eq-right}
 use native.Mathlib.Decide.{ℕ-discrete, decLt}
 use native.Mathlib.Omega.{arith}
 use mathlib.Core.Path.{_≡_, sym, ap, ap₂, subst, _∙_}
 use lib.Bits.{bitXor}
-use lib.Pow.{pow-lt, pow-mono}
+use lib.Count.{ones}
+use lib.Pow.{pow-pos, pow-lt, pow-mono}
 use Rattle.numbers.specs.Bits.{bit, subset}
-use Rattle.numbers.specs.Sums.{sum}
+use Rattle.numbers.specs.Sums.{sum, sumOf}
 use Rattle.numbers.specs.Working.{_≈_}
 use Rattle.numbers.specs.Turn.{difference}
 use Rattle.numbers.proofs.Sums.{ℕ-adds, sumOf-ext, sumOf-split}
 use Rattle.numbers.proofs.Subsets.{subset-self, subset-above, sum-zero}
 use Rattle.numbers.proofs.Turns.{≈-of, ≈-sym, ≈-add, ≈-refl, ≈-cancel, ≈-small, _≈∙_}
 use Rattle.numbers.proofs.Digits.{by-bits}
+use Rattle.coefficients.specs.Coefficients.{listedStart}
 use Rattle.verdict.specs.Verdicts.{Side, Agree}
 use Rattle.verdict.proofs.Lowest.{Lowest}
 
--- a side whose phase is the polynomial of its coefficients, and whose ends respect exclusive or
+-- a side whose phase is the polynomial of its coefficients, and whose ends respect exclusive or but for start 0's
 pub record Summed (w : ℕ) (a : Side) (c : ℕ → ℕ) : Type 0 where
   pub polynomial : (x : ℕ) → x < 2 ^ w → a .phase x ≈ sum (2 ^ w) (λ s. subset s x * c s)
   pub phases : (x : ℕ) → a .phase x < 65536
   pub small : (s : ℕ) → c s < 65536
-  pub linear : (x y : ℕ) → a .end (bitXor x y) ≡ bitXor (a .end x) (a .end y)
+  pub affine : (x y : ℕ) → a .end (bitXor x y) ≡ bitXor (bitXor (a .end x) (a .end y)) (a .end 0)
 
 -- no set above x lies within x
 up-to : (w x : ℕ) (c : ℕ → ℕ) → x < 2 ^ w → sum (2 ^ w) (λ s. subset s x * c s) ≡ sum x (λ s. subset s x * c s) + c x
@@ -62,15 +64,16 @@ module _ (w : ℕ) (a b : Side) (c d : ℕ → ℕ) (sa : Summed w a c) (sb : Su
     phases-agree : c x ≡ d x → a .phase x ≡ b .phase x
     phases-agree e = ≈-small (sa .phases x) (sb .phases x) (≈-cancel (d x) (triangular ≈∙ ≈-of (ap (b .phase x +_) e)))
 
-  -- single wires fix the ends
-  ends-agree : (i x : ℕ) → x < 2 ^ i → ((j : ℕ) → j < i → a .end (2 ^ j) ≡ b .end (2 ^ j)) → a .end x ≡ b .end x
+  -- start 0 and single wires fix the ends
+  ends-agree : (i x : ℕ) → x < 2 ^ i → ((j : ℕ) → j < suc i → a .end (listedStart j) ≡ b .end (listedStart j)) → a .end x ≡ b .end x
   ends-agree i x h e =
-      by-bits (a .end) (sa .linear) i x h
-      ∙ sumOf-ext 0 bitXor i (λ j. bit x j * a .end (2 ^ j)) (λ j. bit x j * b .end (2 ^ j)) (λ j l. ap (bit x j *_) (e j l))
-      ∙ sym (by-bits (b .end) (sb .linear) i x h)
+      by-bits (a .end) (sa .affine) i x h
+      ∙ ap (λ (n : ℕ). sumOf ((ones x + 1) % 2 * n) bitXor i (λ j. bit x j * a .end (2 ^ j))) (e 0 (omega arith))
+      ∙ sumOf-ext ((ones x + 1) % 2 * b .end 0) bitXor i (λ j. bit x j * a .end (2 ^ j)) (λ j. bit x j * b .end (2 ^ j)) (λ j l. ap (bit x j *_) (e (suc j) (omega arith)))
+      ∙ sym (by-bits (b .end) (sb .affine) i x h)
 
-  -- same everywhere exactly where all coefficients and all single-wire ends agree
-  pub agree-everywhere : ((s : ℕ) → s < 2 ^ w → c s ≡ d s) → ((j : ℕ) → j < w → a .end (2 ^ j) ≡ b .end (2 ^ j)) → (x : ℕ) → x < 2 ^ w → Agree a b x
+  -- same everywhere exactly where all coefficients and all listed ends agree
+  pub agree-everywhere : ((s : ℕ) → s < 2 ^ w → c s ≡ d s) → ((j : ℕ) → j < suc w → a .end (listedStart j) ≡ b .end (listedStart j)) → (x : ℕ) → x < 2 ^ w → Agree a b x
   agree-everywhere p q x h = record { ends = ends-agree w x h q; phases = phases-agree x h (λ s l. p s (omega arith)) (p x h) }
 
   pub everywhere-coefficients : ((x : ℕ) → x < 2 ^ w → Agree a b x) → (s : ℕ) → s < 2 ^ w → c s ≡ d s
@@ -84,19 +87,28 @@ module _ (w : ℕ) (a b : Side) (c d : ℕ → ℕ) (sa : Summed w a c) (sb : Su
           by before (yes q) = subst (λ (m : ℕ). c m ≡ d m) (sym q) (coefficients-agree n (omega arith) before (e n (omega arith) .phases))
           by before (no q) = before s (omega (arith, q))
 
-  pub everywhere-ends : ((x : ℕ) → x < 2 ^ w → Agree a b x) → (j : ℕ) → j < w → a .end (2 ^ j) ≡ b .end (2 ^ j)
-  everywhere-ends e j h = e (2 ^ j) (pow-lt h) .ends
+  pub everywhere-ends : ((x : ℕ) → x < 2 ^ w → Agree a b x) → (j : ℕ) → j < suc w → a .end (listedStart j) ≡ b .end (listedStart j)
+  everywhere-ends e j h = e (listedStart j) (start-below j h) .ends
+    where
+      start-below : (j : ℕ) → j < suc w → listedStart j < 2 ^ w
+      start-below zero k = pow-pos w
+      start-below (suc j) k = pow-lt (let z : j < w = omega arith in z)
 
-  -- the scan: the lower of the first place of unlike coefficients and of the first unlike wire's own state
-  module _ (place wire p : ℕ) (sets : Lowest (λ s. c s ≡ d s) (2 ^ w) place) (wires : Lowest (λ j. a .end (2 ^ j) ≡ b .end (2 ^ j)) w wire) (e : p ≡ min place (2 ^ wire)) where
+  -- the scan: the lower of the first place of unlike coefficients and of the first start of unlike ends
+  module _ (place listed p : ℕ) (sets : Lowest (λ s. c s ≡ d s) (2 ^ w) place) (starts : Lowest (λ j. a .end (listedStart j) ≡ b .end (listedStart j)) (suc w) listed) (e : p ≡ min place (listedStart listed)) where
     low : p ≤ place
-    low = subst (λ (m : ℕ). m ≤ place) (sym e) (min-le-left place (2 ^ wire))
+    low = subst (λ (m : ℕ). m ≤ place) (sym e) (min-le-left place (listedStart listed))
 
-    high : p ≤ 2 ^ wire
-    high = subst (λ (m : ℕ). m ≤ 2 ^ wire) (sym e) (min-le-right place (2 ^ wire))
+    high : p ≤ listedStart listed
+    high = subst (λ (m : ℕ). m ≤ listedStart listed) (sym e) (min-le-right place (listedStart listed))
 
     agree-below : (s : ℕ) → s < p → c s ≡ d s
     agree-below s h = sets .before s (omega (arith, low))
+
+    -- below a listed start the ends before it fix all
+    ends-below : (j x : ℕ) → x < listedStart j → ((k : ℕ) → k < j → a .end (listedStart k) ≡ b .end (listedStart k)) → a .end x ≡ b .end x
+    ends-below zero x h k = absurd (omega arith)
+    ends-below (suc j) x h k = ends-agree j x h k
 
     pub scan-finds : Lowest (Agree a b) (2 ^ w) p
     scan-finds =
@@ -104,21 +116,25 @@ module _ (w : ℕ) (a b : Side) (c d : ℕ → ℕ) (sa : Summed w a c) (sb : Su
           within = omega (arith, sets .within, low);
           before = λ x h.
               let k : x < 2 ^ w = omega (arith, sets .within, low) in
-              record { ends = ends-agree wire x (omega (arith, high)) (wires .before); phases = phases-agree x k (λ s m. agree-below s (omega arith)) (agree-below x h) };
-          there = λ h g. parts h g (decLt (2 ^ wire) place);
+              record { ends = ends-below listed x (omega (arith, high)) (starts .before); phases = phases-agree x k (λ s m. agree-below s (omega arith)) (agree-below x h) };
+          there = λ h g. parts h g (decLt (listedStart listed) place);
         }
       where
-        parts : p < 2 ^ w → Agree a b p → Dec (2 ^ wire < place) → ⊥
+        inside : (j : ℕ) → j ≤ suc w → listedStart j < 2 ^ w → j < suc w
+        inside zero l k = omega arith
+        inside (suc j) l k = by (decLt j w)
+          where
+            by : Dec (j < w) → suc j < suc w
+            by (yes m) = omega arith
+            by (no m) = absurd (omega (arith, pow-mono {i = w} {j = j} (omega arith)))
+
+        parts : p < 2 ^ w → Agree a b p → Dec (listedStart listed < place) → ⊥
         parts h g (no l) =
-            let q : p ≡ place = e ∙ min-eq-left (let z : place ≤ 2 ^ wire = omega arith in z) in
+            let q : p ≡ place = e ∙ min-eq-left (let z : place ≤ listedStart listed = omega arith in z) in
             sets .there (omega arith) (subst (λ (m : ℕ). c m ≡ d m) q (coefficients-agree p h agree-below (g .phases)))
         parts h g (yes l) =
-            let q : p ≡ 2 ^ wire = e ∙ min-eq-right (let z : 2 ^ wire ≤ place = omega arith in z) in
-            wires .there (inside (decLt wire w)) (subst (λ (m : ℕ). a .end m ≡ b .end m) q (g .ends))
-          where
-            inside : Dec (wire < w) → wire < w
-            inside (yes k) = k
-            inside (no k) = absurd (omega (arith, sets .within, pow-mono {i = w} {j = wire} (omega arith)))
+            let q : p ≡ listedStart listed = e ∙ min-eq-right (let z : listedStart listed ≤ place = omega arith in z) in
+            starts .there (inside listed (starts .within) (omega arith)) (subst (λ (m : ℕ). a .end m ≡ b .end m) q (g .ends))
 
     pub scan-phase : p < 2 ^ w → difference (a .phase p) (b .phase p) ≡ difference (c p) (d p)
     scan-phase h = phase-difference p h agree-below

@@ -1,8 +1,9 @@
 -- A circuit and the ideal, each with its coefficients: what the scan goes by.
 use Prim.Native.Nat.{ℕ, zero, suc, _*_, _%_, _^_, _<_}
 use native.Mathlib.Omega.{arith}
-use mathlib.Core.Path.{refl}
+use mathlib.Core.Path.{sym}
 use mathlib.Core.List.{List}
+use lib.Bits.{bitXor, xor-zero-r}
 use Rattle.numbers.specs.Bits.{bit}
 use Rattle.table.specs.Table.{valueAt}
 use Rattle.circuit.specs.declared.Gate.{Gate}
@@ -16,7 +17,7 @@ use Rattle.verdict.proofs.Scanning.{Summed}
 
 pub circuit-summed : (w : ℕ) (gs : List Gate) → AllSound w gs → Summed w (circuit gs) (coefficient w gs)
 circuit-summed w gs h =
-    record { polynomial = λ x l. phase-polynomial w gs x h l; phases = λ x. omega arith; small = coefficient-below w gs; linear = end-xor gs }
+    record { polynomial = λ x l. phase-polynomial w gs x h l; phases = λ x. omega arith; small = coefficient-below w gs; affine = end-xor gs }
 
 pub ideal-summed : (n : ℕ) (t : List ℕ) → Summed (suc n) (ideal n (valueAt t)) (idealCoefficient n (valueAt t))
 ideal-summed n t =
@@ -24,7 +25,7 @@ ideal-summed n t =
       polynomial = ideal-polynomial n (valueAt t);
       phases = λ x. small (valueAt t (x % 2 ^ n)) (bit x n) (omega arith) (omega arith);
       small = ideal-below n (valueAt t);
-      linear = λ x y. refl;
+      affine = λ x y. sym (xor-zero-r (bitXor x y));
     }
   where
     small : (f b : ℕ) → f < 2 → b < 2 → 32768 * (f * b) < 65536

@@ -1,5 +1,5 @@
 -- The slices that are lent to sum up a side hold its summary, so that judging the two is comparing or judging.
-use Prim.Native.Nat.{ℕ, _+_, _^_, _≤_}
+use Prim.Native.Nat.{ℕ, suc, _+_, _^_, _≤_}
 use native.Mathlib.Numerals.{add-one}
 use native.Mathlib.Omega.{arith}
 use mathlib.Core.Path.{_≡_, sym, ap, subst, subst₂}
@@ -21,8 +21,8 @@ use Rattle.circuit.proofs.Callers.{good-file, few-states}
 use Rattle.circuit.proofs.Files.{file-sound}
 use Rattle.circuit.proofs.Writing.{length-put}
 use Rattle.running.specs.Run.{endFrom}
-use Rattle.running.specs.Masks.{mostWires, mostMasks}
-use Rattle.coefficients.specs.Coefficients.{coefficient, idealCoefficient}
+use Rattle.running.specs.Masks.{mostMasks}
+use Rattle.coefficients.specs.Coefficients.{listedStart, mostStarts, coefficient, idealCoefficient}
 use Rattle.coefficients.specs.Summaries.{Summarises, SummarisesIdeal}
 use Rattle.coefficients.proofs.Callers.{summarise-answers, ideal-answers, put-entry}
 use Rattle.verdict.specs.declared.Compared.{Compared}
@@ -43,27 +43,27 @@ pub record FileSums (side : ℕ) (f row ends : List ℕ) (w : ℕ) : Type 0 wher
   pub holds : HoldsSummary w row ends
   pub sums : Bytes f → Sums (wiresOf f) (circuit (gatesOf f)) (coefficient (wiresOf f) (gatesOf f)) (summary row ends)
 
-pub file-sums : (side : ℕ) (f row₀ ends₀ : List ℕ) (answer : Reading) (row ends : List ℕ) → Summarises side f row₀ ends₀ answer row ends → length row₀ ≡ mostMasks → length ends₀ ≡ mostWires
+pub file-sums : (side : ℕ) (f row₀ ends₀ : List ℕ) (answer : Reading) (row ends : List ℕ) → Summarises side f row₀ ends₀ answer row ends → length row₀ ≡ mostMasks → length ends₀ ≡ mostStarts
     → (w g : ℕ) → answer ≡ Circuit w g → FileSums side f row ends w
 file-sums side f row₀ ends₀ answer row ends s lr le w g e =
     let v = summarise-answers side f row₀ ends₀ answer row ends s w g e in
     let p = v .0 .passes in
     let h = good-file side f p in
     let r : 2 ^ wiresOf f ≤ length row₀ = omega (arith, few-states side f p) in
-    let d : wiresOf f ≤ length ends₀ = omega (arith, h .few) in
+    let d : suc (wiresOf f) ≤ length ends₀ = omega (arith, h .few) in
     record {
       good = p;
       wires = v .1;
       holds = subst (λ (n : ℕ). HoldsSummary n row ends) (sym (v .1)) (record {
         few = h .few;
         sets = long (2 ^ wiresOf f) (coefficient (wiresOf f) (gatesOf f)) row₀ row (v .0 .row) r;
-        wires = long (wiresOf f) (λ i. endFrom (gatesOf f) (2 ^ i)) ends₀ ends (v .0 .ends) d;
+        starts = long (suc (wiresOf f)) (λ i. endFrom (gatesOf f) (listedStart i)) ends₀ ends (v .0 .ends) d;
       });
       sums = λ bytes.
           record {
             summed = circuit-summed (wiresOf f) (gatesOf f) (file-sound f bytes h);
             sets = put-entry (2 ^ wiresOf f) (coefficient (wiresOf f) (gatesOf f)) row₀ row (v .0 .row) r;
-            wires = put-entry (wiresOf f) (λ i. endFrom (gatesOf f) (2 ^ i)) ends₀ ends (v .0 .ends) d;
+            starts = put-entry (suc (wiresOf f)) (λ i. endFrom (gatesOf f) (listedStart i)) ends₀ ends (v .0 .ends) d;
           };
     }
 
@@ -73,20 +73,20 @@ pub record TableSums (n : ℕ) (t row ends : List ℕ) : Type 0 where
   pub holds : HoldsSummary (n + 1) row ends
   pub sums : Sums (n + 1) (ideal n (valueAt t)) (idealCoefficient n (valueAt t)) (summary row ends)
 
-pub table-sums : (n : ℕ) (t row₀ ends₀ : List ℕ) (answer : Checked) (row ends : List ℕ) → SummarisesIdeal n t row₀ ends₀ answer row ends → length row₀ ≡ mostMasks → length ends₀ ≡ mostWires
+pub table-sums : (n : ℕ) (t row₀ ends₀ : List ℕ) (answer : Checked) (row ends : List ℕ) → SummarisesIdeal n t row₀ ends₀ answer row ends → length row₀ ≡ mostMasks → length ends₀ ≡ mostStarts
     → answer ≡ Good → TableSums n t row ends
 table-sums n t row₀ ends₀ answer row ends s lr le e =
     let v = ideal-answers n t row₀ ends₀ answer row ends s e in
     let few = good-variables n t (v .passes) .1 in
     let r : 2 ^ (n + 1) ≤ length row₀ = omega (arith, pow-mono {i = n + 1} {j = 10} (omega arith)) in
-    let d : n + 1 ≤ length ends₀ = omega arith in
+    let d : n + 2 ≤ length ends₀ = omega arith in
     record {
       good = v .passes;
-      holds = record { few = omega arith; sets = long (2 ^ (n + 1)) (idealCoefficient n (valueAt t)) row₀ row (v .row) r; wires = long (n + 1) (λ i. 2 ^ i) ends₀ ends (v .ends) d };
+      holds = record { few = omega arith; sets = long (2 ^ (n + 1)) (idealCoefficient n (valueAt t)) row₀ row (v .row) r; starts = omega (arith, long (n + 2) listedStart ends₀ ends (v .ends) d) };
       sums = record {
         summed = rw (add-one n) (ideal-summed n t);
         sets = put-entry (2 ^ (n + 1)) (idealCoefficient n (valueAt t)) row₀ row (v .row) r;
-        wires = put-entry (n + 1) (λ i. 2 ^ i) ends₀ ends (v .ends) d;
+        starts = λ i k. put-entry (n + 2) listedStart ends₀ ends (v .ends) d i (omega arith);
       };
     }
 

@@ -1,9 +1,10 @@
 -- Two summaries judged by their numbers alone; the laws show that this is the verdict on their sides.
-use Prim.Native.Nat.{ℕ, _*_, _^_, _≤_, min}
+use Prim.Native.Nat.{ℕ, suc, _+_, _*_, _%_, _^_, _≤_, min}
 use mathlib.Core.Bool.{Bool, not, cond}
 use mathlib.Core.List.{List}
 use lib.Dec.{ltb, eqb}
 use lib.Bits.{bitXor}
+use lib.Count.{ones}
 use lib.ListN.{length}
 use Rattle.numbers.specs.Bits.{bit}
 use Rattle.numbers.specs.Sums.{sumOf}
@@ -12,6 +13,7 @@ use Rattle.numbers.specs.Turn.{difference}
 use Rattle.refusal.specs.Checks.{outcome}
 use Rattle.refusal.specs.Contract.{Meets}
 use Rattle.running.specs.Masks.{mostWires}
+use Rattle.coefficients.specs.Coefficients.{listedStart}
 use Rattle.coefficients.specs.Working.{entry}
 use Rattle.verdict.specs.declared.Verdict.{Verdict}
 use Rattle.verdict.specs.declared.Verdict.the-variants.{Same, Different}
@@ -19,7 +21,7 @@ use Rattle.verdict.specs.declared.Compared.{Compared}
 use Rattle.verdict.specs.Verdicts.{differences}
 use Rattle.verdict.specs.Judging.{verdictValues, comparedSays, workChecks}
 
--- a side's coefficients, set by set, and the ends of its single-wire starts, wire by wire
+-- a side's coefficients, set by set, and the ends of its listed starts: start 0 first, then wire by wire
 pub record Summary : Type 0 where
   pub coefficients : ℕ → ℕ
   pub ends : ℕ → ℕ
@@ -32,19 +34,19 @@ summary row ends = record { coefficients = entry row; ends = entry ends }
 pub record HoldsSummary (w : ℕ) (row ends : List ℕ) : Type 0 where
   pub few : w ≤ mostWires
   pub sets : 2 ^ w ≤ length row
-  pub wires : w ≤ length ends
+  pub starts : suc w ≤ length ends
 
 -- where two rows of numbers differ
 abbrev pub unlike : (ℕ → ℕ) → (ℕ → ℕ) → ℕ → Bool
 unlike f g i = not (eqb (f i) (g i))
 
--- the lowest place where the coefficients or the single-wire ends (wire i's at 2^i) differ; 2^w where none do
+-- the lowest place where the coefficients or the listed ends (each at its start) differ; 2^w where none do
 abbrev pub lowestPlace : ℕ → Summary → Summary → ℕ
-lowestPlace w a b = min (least (unlike (a .coefficients) (b .coefficients)) (2 ^ w) 0) (2 ^ least (unlike (a .ends) (b .ends)) w 0)
+lowestPlace w a b = min (least (unlike (a .coefficients) (b .coefficients)) (2 ^ w) 0) (listedStart (least (unlike (a .ends) (b .ends)) (suc w) 0))
 
--- the exclusive or of the ends over a state's bits
+-- the exclusive or of the ends over a state's bits, with start 0's end where they are evenly many
 unfoldable pub endOf : ℕ → (ℕ → ℕ) → ℕ → ℕ
-endOf w ends state = sumOf 0 bitXor w (λ i. bit state i * ends i)
+endOf w ends state = sumOf ((ones state + 1) % 2 * ends 0) bitXor w (λ i. bit state i * ends (suc i))
 
 -- Different with both ends there and the coefficients' difference, for a place below 2^w
 abbrev pub judgedAt : ℕ → Summary → Summary → ℕ → Verdict

@@ -2,8 +2,8 @@
 use crate::Compared;
 use crate::summaries::judge_summaries;
 use circuit::Reading;
+use coefficients::STARTS;
 use running::MASKS;
-use running::WIRES;
 use table::Checked;
 ghost use mathlib.Core.Path.{_≡_};
 ghost use lib.ListN.{length};
@@ -16,9 +16,9 @@ pub fn compare(first: &[u8], second: &[u8], work: &mut [u16]) -> Compared
     ensures { λ r. ⌜ Compares (now (first .entry)) (now (second .entry)) (now (work .entry)) r (now (work .exit)) ⌝ }
 {
     let mut first_row = empty();
-    let mut first_ends = [0u16; WIRES];
+    let mut first_ends = [0u16; STARTS];
     let mut second_row = empty();
-    let mut second_ends = [0u16; WIRES];
+    let mut second_ends = [0u16; STARTS];
     let wires = match coefficients::summarise(first, 0, &mut first_row, &mut first_ends) {
         Reading::Refused(refusal) => return Compared::Refused(refusal),
         Reading::Circuit { wires, gates: _ } => wires,
@@ -45,9 +45,9 @@ pub fn judge(n: u8, table: &[u8], file: &[u8], work: &mut [u16]) -> Compared
     ensures { λ r. ⌜ Judges n (now (table .entry)) (now (file .entry)) (now (work .entry)) r (now (work .exit)) ⌝ }
 {
     let mut ideal_row = empty();
-    let mut ideal_ends = [0u16; WIRES];
+    let mut ideal_ends = [0u16; STARTS];
     let mut row = empty();
-    let mut ends = [0u16; WIRES];
+    let mut ends = [0u16; STARTS];
     if let Checked::Refused(refusal) = coefficients::summarise_ideal(
         n,
         table,

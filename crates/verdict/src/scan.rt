@@ -33,15 +33,16 @@ pub(crate) fn scan(
     Verdict::Same
 }
 
-// The lowest place of unlike coefficients, or of unlike ends, wire i's standing at 2^i; 2^w where all are alike.
+// The lowest place of unlike coefficients, or of unlike ends, start 0's standing at 0 and wire i's at 2^i; 2^w where all
+// are alike.
 fn lowest_place(wires: u8, first: &[u16], firsts: &[u16], second: &[u16], seconds: &[u16]) -> usize
     requires { ⌜ HoldsSummary wires (now first) (now firsts) × HoldsSummary wires (now second) (now seconds) ⌝ }
     ensures { λ r. ⌜ r ≡ lowestPlace wires (summary (now (first .entry)) (now (firsts .entry))) (summary (now (second .entry)) (now (seconds .entry))) ⌝ }
 {
     let place = first_unlike(first, second, numbers::power(wires));
-    let wire = first_unlike(firsts, seconds, wires as usize);
-    let single = 1usize << wire;
-    if place < single { place } else { single }
+    let listed = first_unlike(firsts, seconds, wires as usize + 1);
+    let start = (1usize << listed) / 2;
+    if place < start { place } else { start }
 }
 
 // The first of `count` places where two rows differ, or `count`.
@@ -61,16 +62,17 @@ fn first_unlike(a: &[u16], b: &[u16], count: usize) -> usize
     i
 }
 
-// Where a state ends: the exclusive or of its bits' ends.
+// Where a state ends: the exclusive or of its bits' ends, with start 0's where they are evenly many.
 fn end_at(ends: &[u16], wires: u8, state: usize) -> u16
-    requires { ⌜ (wires ≤ mostWires) × (wires ≤ length (now ends)) ⌝ }
+    requires { ⌜ (wires ≤ mostWires) × (wires < length (now ends)) ⌝ }
     ensures { λ r. ⌜ r ≡ endOf wires (entry (now (ends .entry))) state ⌝ }
 {
     let count = wires as usize;
-    let mut end: u16 = 0;
+    let bits = usize::count_ones(state) as usize;
+    let mut end: u16 = where_set((bits + 1) % 2, ends[0]);
     let mut i: usize = 0;
     while i < count {
-        end = end ^ where_set((state >> i) % 2, ends[i]);
+        end = end ^ where_set((state >> i) % 2, ends[i + 1]);
         i += 1;
     }
     end

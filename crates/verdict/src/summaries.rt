@@ -1,5 +1,5 @@
 // Two summaries judged by their numbers alone: `first` and `second` are rows of coefficients, `firsts` and `seconds` the
-// ends of the single-wire starts.
+// ends of the listed starts.
 use crate::Compared;
 use crate::scan::scan;
 ghost use mathlib.Core.Path.{_≡_};
