@@ -45,7 +45,7 @@ extern "C" {
 #define PHG_PAD 3      /* an unused table bit is 1 */
 #define PHG_SHORT 4    /* file under 8 bytes */
 #define PHG_MARK 5     /* mark wrong */
-#define PHG_VERSION 6  /* version is not 1 */
+#define PHG_VERSION 6  /* version is neither 1 nor 2 */
 #define PHG_WIRES 7    /* wires are 0 or above 10 */
 #define PHG_COUNT 8    /* gate count above 2,048 */
 #define PHG_LENGTH 9   /* length is not 8 + 4 times count */
@@ -55,10 +55,10 @@ extern "C" {
 #define PHG_ROOM 13    /* out shorter than this call's result, or work than 2^w */
 
 /* What is wrong with a bad gate: of several faults the first in this order. */
-#define PHG_REASON_KIND 1   /* the kind is neither 1 nor 2 */
+#define PHG_REASON_KIND 1   /* the kind is none of 1, 2 and, where the file's version is 2, 3 */
 #define PHG_REASON_WIRE 2   /* a wire is not below w */
 #define PHG_REASON_EQUAL 3  /* control equals target */
-#define PHG_REASON_SPARE 4  /* a CNOT's last byte is not 0 */
+#define PHG_REASON_SPARE 4  /* a CNOT's last byte, or one of an inverter's last two, is not 0 */
 
 /* Whether `table` is the packed table of a function of n variables. No values. Refusals: TABLE. */
 void phg_check(uint8_t n, const uint8_t *table, size_t table_len, uint64_t answer[6]);
@@ -70,9 +70,12 @@ uint8_t phg_value(const uint8_t *table, size_t table_len, size_t x);
 void phg_spectrum(uint8_t n, const uint8_t *table, size_t table_len, int32_t *out, size_t out_len,
                   uint64_t answer[6]);
 
-/* The gate of four bytes on w wires. answer[0] is its kind: 1 CNOT, then control and target; 2 phase, then wire and
- * angle; answer[3] is the position as given. A bad gate: answer[0] is 0, [1]: its reason. No refusals. */
-void phg_decode(uint8_t w, size_t position, uint8_t kind, uint8_t a, uint8_t b, uint8_t c, uint64_t answer[6]);
+/* The gate of four bytes on w wires in a file of a version: kind 3 is good only where that is 2, and every other
+ * version is like 1. answer[0] is the gate's kind: 1 CNOT, then control and target; 2 phase, then wire and angle;
+ * 3 inverter (X), then wire and 0; answer[3] is the position as given. A bad gate: answer[0] is 0, [1]: its reason.
+ * No refusals. */
+void phg_decode(uint16_t version, uint8_t w, size_t position, uint8_t kind, uint8_t a, uint8_t b, uint8_t c,
+                uint64_t answer[6]);
 
 /* A file checked. answer[1]: wires, [2]: gates. Refusals: FILE. */
 void phg_read(const uint8_t *file, size_t file_len, uint64_t answer[6]);
@@ -81,19 +84,21 @@ void phg_read(const uint8_t *file, size_t file_len, uint64_t answer[6]);
 void phg_run(const uint8_t *file, size_t file_len, uint16_t start, uint64_t answer[6]);
 
 /* A count. answer[1]: CNOTs, [2]: phase gates, [3]: score: the phase gates whose angle is no multiple of 16,384, since
- * quarter and half turns are free. Refusals: FILE. */
+ * quarter and half turns are free, [4]: inverters. Refusals: FILE. */
 void phg_count(const uint8_t *file, size_t file_len, uint64_t answer[6]);
 
-/* The table's circuit file to the front of out. answer[1]: its length, 2^(n + 4). Refusals: TABLE, ROOM. */
+/* The table's circuit file, of version 1, to the front of out. answer[1]: its length, 2^(n + 4).
+ * Refusals: TABLE, ROOM. */
 void phg_build(uint8_t n, const uint8_t *table, size_t table_len, uint8_t *out, size_t out_len, uint64_t answer[6]);
 
-/* The folded file to the front of out. answer[1]: its length, at most file_len, [2]: score before, [3]: score after,
- * which is never higher. Refusals: FILE, ROOM. */
+/* The folded file, of the file's version, to the front of out. answer[1]: its length, at most file_len, [2]: score
+ * before, [3]: score after, which is never higher. Refusals: FILE, ROOM. */
 void phg_fold(const uint8_t *file, size_t file_len, uint8_t *out, size_t out_len, uint64_t answer[6]);
 
-/* Whether two circuits do the same. answer[1]: 0 same, 1 different; if different [2]: lowest differing state, [3] and
- * [4]: the first's and the second's end there, [5]: first phase minus second. work[0] to work[2^w - 1] become the
- * first's coefficients minus the second's. Refusals: FILE (side 0, then side 1), UNLIKE, ROOM. */
+/* Whether two circuits, of one version or not, do the same. answer[1]: 0 same, 1 different; if different [2]: lowest
+ * differing state, which may be 0, [3] and [4]: the first's and the second's end there, [5]: first phase minus second.
+ * work[0] to work[2^w - 1] become the first's coefficients minus the second's, work[0] that of the constants.
+ * Refusals: FILE (side 0, then side 1), UNLIKE, ROOM. */
 void phg_compare(const uint8_t *first, size_t first_len, const uint8_t *second, size_t second_len, uint16_t *work,
                  size_t work_len, uint64_t answer[6]);
 

@@ -5,7 +5,7 @@ use mathlib.Core.List.{List, [], _∷_, _++_}
 use lib.ListN.{take, replicate}
 use Rattle.refusal.specs.Contract.{Said, values, refuses}
 use Rattle.circuit.specs.declared.Gate.{Gate}
-use Rattle.circuit.specs.declared.Gate.the-variants.{Cnot, Phase}
+use Rattle.circuit.specs.declared.Gate.the-variants.{Cnot, Phase, Inverter}
 use Rattle.circuit.specs.declared.Decoded.{Decoded}
 use Rattle.circuit.specs.declared.Decoded.the-variants.{Good, Bad}
 use Rattle.circuit.specs.Gates.{reasonNumber}
@@ -27,10 +27,11 @@ pub record TellsAnswer {Answer : Type 0} (Contract : Answer → Type 0) (said : 
   pub meets : Contract answer
   pub tells : numbers ≡ numbersOf (said answer)
 
--- kind, then control and target, or wire and angle, then the position; 0 and the reason for a bad gate
+-- kind, then control and target, or wire and angle, or wire and 0, then the position; 0 and the reason for a bad gate
 abbrev pub gateNumbers : ℕ → Gate → List ℕ
 gateNumbers p (Cnot c t) = 1 ∷ c ∷ t ∷ p ∷ 0 ∷ 0 ∷ []
 gateNumbers p (Phase i a) = 2 ∷ i ∷ a ∷ p ∷ 0 ∷ 0 ∷ []
+gateNumbers p (Inverter i) = 3 ∷ i ∷ 0 ∷ p ∷ 0 ∷ 0 ∷ []
 
 abbrev pub decodedNumbers : Decoded → List ℕ
 decodedNumbers (Good g) = gateNumbers (g .position) (g .gate)

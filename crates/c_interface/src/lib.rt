@@ -40,6 +40,7 @@ pub extern "C" fn phg_spectrum(n: u8, table: &[u8], out: &mut [i32], answer: &mu
 
 #[no_mangle]
 pub extern "C" fn phg_decode(
+    version: u16,
     w: u8,
     position: usize,
     kind: u8,
@@ -48,9 +49,9 @@ pub extern "C" fn phg_decode(
     c: u8,
     answer: &mut [u64; 6],
 )
-    ensures { λ _. ⌜ now (answer .exit) ≡ decodedNumbers (decoded w position kind a b c) ⌝ }
+    ensures { λ _. ⌜ now (answer .exit) ≡ decodedNumbers (decoded version w position kind a b c) ⌝ }
 {
-    *answer = told::decoded(circuit::decode(w, position, kind, a, b, c));
+    *answer = told::decoded(circuit::decode(version, w, position, kind, a, b, c));
 }
 
 #[no_mangle]

@@ -74,6 +74,7 @@ fn gate_numbers(position: u64, gate: Gate) -> [u64; 6]
     match gate {
         Gate::Cnot { control, target } => [1, control as u64, target as u64, position, 0, 0],
         Gate::Phase { wire, angle } => [2, wire as u64, angle as u64, position, 0, 0],
+        Gate::Inverter { wire } => [3, wire as u64, 0, position, 0, 0],
     }
 }
 
@@ -103,7 +104,15 @@ pub(crate) fn counted(answer: Counted) -> [u64; 6]
             cnots,
             phases,
             score,
-        } => [0, cnots as u64, phases as u64, score as u64, 0, 0],
+            inverters,
+        } => [
+            0,
+            cnots as u64,
+            phases as u64,
+            score as u64,
+            inverters as u64,
+            0,
+        ],
         Counted::Refused(refusal) => refused(refusal),
     }
 }

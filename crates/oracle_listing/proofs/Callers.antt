@@ -13,14 +13,14 @@ use Rattle.refusal.proofs.Contracts.{meets-values, meets-refusal, when-passed}
 use Rattle.refusal.proofs.Outcomes.{reaches, either}
 use Rattle.table.specs.Table.{tableChecks, valueAt}
 use Rattle.table.proofs.Callers.{good-variables, table-refusal}
-use Rattle.circuit.specs.Working.{AllSound}
-use Rattle.circuit.specs.File.{wiresOf, gatesOf}
+use Rattle.circuit.specs.Working.{AllSound, AllAdmitted}
+use Rattle.circuit.specs.File.{versionOf, wiresOf, gatesOf}
 use Rattle.circuit.proofs.Files.{list-written, wires-written, length-file}
 use Rattle.build.specs.Construction.{builtFile, construction}
 use Rattle.build.proofs.Files.{built-long, built-gates, built-wires}
-use Rattle.build.proofs.Circuits.{sound-construction}
+use Rattle.build.proofs.Circuits.{sound-construction, admitted-construction}
 use Rattle.fold.specs.Fold.{folded}
-use Rattle.fold.proofs.Folding.{folded-sound, folded-shorter}
+use Rattle.fold.proofs.Folding.{folded-sound, folded-admitted, folded-shorter}
 use Rattle.listing.specs.declared.Listed.{Listed}
 use Rattle.listing.specs.declared.Listed.the-variants.{Length, Refused}
 use Rattle.listing.specs.Listing.{listedSays, refusedLine}
@@ -47,8 +47,11 @@ room-for-text n t e =
     let g : gatesOf f ≡ construction n (valueAt t) = built-gates n t (v .0) (v .1) in
     let w : wiresOf f ≡ n + 1 = built-wires n t (v .0) (v .1) in
     let s : AllSound (wiresOf f) (gatesOf f) = rw (g, w) (sound-construction n (valueAt t)) in
-    let l : length (foldedListing f) ≤ 64 + 32 * length gs = rw (list-written (wiresOf f) gs (folded-sound (wiresOf f) (gatesOf f) s), wires-written (wiresOf f) gs) (listing-short true (wiresOf f) gs (omega (arith, w, v .1)) (folded-sound (wiresOf f) (gatesOf f) s)) in
-    let k = length-file (n + 1) (construction n (valueAt t)) in
+    let a : AllAdmitted (versionOf f) (gatesOf f) = rw g (admitted-construction (versionOf f) n (valueAt t)) in
+    let q = folded-sound (wiresOf f) (gatesOf f) s in
+    let l : length (foldedListing f) ≤ 64 + 32 * length gs =
+    rw (list-written (versionOf f) (wiresOf f) gs q (folded-admitted (wiresOf f) (gatesOf f) (versionOf f) a), wires-written (versionOf f) (wiresOf f) gs) (listing-short true (wiresOf f) gs (omega (arith, w, v .1)) q) in
+    let k = length-file 1 (n + 1) (construction n (valueAt t)) in
     omega (arith, l, folded-shorter (wiresOf f) (gatesOf f), ap length g, k, built-long n t (v .0), pow-mono {i = n + 4} {j = 12} (omega (arith, v .1)))
 
 -- what is printed for a table that passes, and for one that is refused
