@@ -16,23 +16,23 @@ use Rattle.spectrum.specs.declared.Transformed.{Transformed}
 use Rattle.spectrum.specs.declared.Transformed.the-variants.{Entries}
 use Rattle.spectrum.specs.Spectrum.{coefficient, spectrumOf, spectrumChecks, transformedSays, Transforms}
 use Rattle.spectrum.proofs.Callers.{transformed-distinct, length-spectrum}
-use Rattle.circuit.specs.File.{wiresOf, countOf, gatesOf, fileChecks}
+use Rattle.circuit.specs.File.{versionOf, wiresOf, countOf, gatesOf, fileChecks}
 use Rattle.circuit.specs.Bytes.{Bytes}
 use Rattle.running.specs.declared.Ran.{Ran}
 use Rattle.running.specs.declared.Ran.the-variants.{End}
 use Rattle.running.specs.declared.Counted.{Counted}
 use Rattle.running.specs.declared.Counted.the-variants.{Gates}
-use Rattle.running.specs.Run.{endFrom, phaseFrom, runChecks, Runs, cnots, phases, score, Counts}
+use Rattle.running.specs.Run.{endFrom, phaseFrom, runChecks, Runs, cnots, phases, score, inverters, Counts}
 use Rattle.running.proofs.Callers.{ran-distinct, counted-distinct}
 use Rattle.build.specs.declared.Built.{Built}
 use Rattle.build.specs.declared.Built.the-variants.{Length}
 use Rattle.build.specs.Construction.{construction, builtFile, buildChecks, builtSays, Builds}
-use Rattle.build.proofs.Files.{built-wires, built-count, built-gates}
+use Rattle.build.proofs.Files.{built-version, built-wires, built-count, built-gates}
 use Rattle.build.proofs.Callers.{built-distinct}
 use Rattle.fold.specs.declared.Folded.{Folded}
 use Rattle.fold.specs.declared.Folded.the-variants.{File}
 use Rattle.fold.specs.Fold.{folded, foldedFile, foldChecks, foldedSays, Folds}
-use Rattle.fold.proofs.Files.{same-wires, gates-of-folded}
+use Rattle.fold.proofs.Files.{same-version, same-wires, gates-of-folded}
 use Rattle.fold.proofs.Scores.{score-falls}
 use Rattle.fold.proofs.Callers.{fold-answers, folded-distinct}
 
@@ -59,6 +59,8 @@ pub record PaperBuilt (n : ℕ) (t out : List ℕ) (answer : Built) (after : Lis
   pub answers : answer ≡ Length (2 ^ (n + 4))
   pub holds : after ≡ builtFile n t ++ drop (length (builtFile n t)) out
   pub gates : gatesOf (builtFile n t) ≡ construction n (valueAt t)
+  -- 02 §12, "the builders write 1"
+  pub version : versionOf (builtFile n t) ≡ 1
   pub wires : wiresOf (builtFile n t) ≡ n + 1
   pub count : countOf (builtFile n t) ≡ 2 ^ (n + 2) - 2
 
@@ -70,6 +72,7 @@ build-paper n t out a after m p =
       answers = built-distinct a (Length (2 ^ (n + 4))) (r .0);
       holds = r .1;
       gates = built-gates n t (v .0) (v .1);
+      version = built-version n t (v .0) (v .1);
       wires = built-wires n t (v .0) (v .1);
       count = built-count n t (v .0) (v .1);
     }
@@ -79,12 +82,14 @@ pub record PaperFolded (f out : List ℕ) (answer : Folded) (after : List ℕ) :
   pub answers : answer ≡ File (length (foldedFile f)) (score (gatesOf f)) (score (folded (wiresOf f) (gatesOf f)))
   pub holds : after ≡ foldedFile f ++ drop (length (foldedFile f)) out
   pub gates : gatesOf (foldedFile f) ≡ folded (wiresOf f) (gatesOf f)
+  -- 02 §12, "Folding .. write[s] the input's version"
+  pub version : versionOf (foldedFile f) ≡ versionOf f
   pub wires : wiresOf (foldedFile f) ≡ wiresOf f
 
 pub fold-paper : (f out : List ℕ) (a : Folded) (after : List ℕ) → Bytes f → Folds f out a after → outcome (foldChecks f (length out)) ≡ passed → PaperFolded f out a after
 fold-paper f out a after b m p =
     let r = when-passed foldedSays _ _ (foldedFile f) out a after p m in
-    record { answers = folded-distinct a (File (length (foldedFile f)) (score (gatesOf f)) (score (folded (wiresOf f) (gatesOf f)))) (r .0); holds = r .1; gates = gates-of-folded 0 f b (parts-pass (fileChecks 0 f) _ p .0); wires = same-wires f }
+    record { answers = folded-distinct a (File (length (foldedFile f)) (score (gatesOf f)) (score (folded (wiresOf f) (gatesOf f)))) (r .0); holds = r .1; gates = gates-of-folded 0 f b (parts-pass (fileChecks 0 f) _ p .0); version = same-version f; wires = same-wires f }
 
 -- 02 §2, "folding never raises the new score"
 pub never-raises : (f out : List ℕ) (l before after : ℕ) (x : List ℕ) → Folds f out (File l before after) x → after ≤ before
@@ -96,6 +101,6 @@ never-raises f out l before after x m =
 pub run-paper : (f : List ℕ) (start : ℕ) (a : Ran) → Runs f start a → outcome (runChecks f start) ≡ passed → a ≡ End (endFrom (gatesOf f) start) (phaseFrom (gatesOf f) start)
 run-paper f start a m p = ran-distinct a (End (endFrom (gatesOf f) start) (phaseFrom (gatesOf f) start)) (rw p at m)
 
--- "The count answers CNOTs, phase gates, and score."
-pub count-paper : (f : List ℕ) (a : Counted) → Counts f a → outcome (fileChecks 0 f) ≡ passed → a ≡ Gates (cnots (gatesOf f)) (phases (gatesOf f)) (score (gatesOf f))
-count-paper f a m p = counted-distinct a (Gates (cnots (gatesOf f)) (phases (gatesOf f)) (score (gatesOf f))) (rw p at m)
+-- "The count answers CNOTs, phase gates, and score."; 02 §12, "The count answers the X gates too"
+pub count-paper : (f : List ℕ) (a : Counted) → Counts f a → outcome (fileChecks 0 f) ≡ passed → a ≡ Gates (cnots (gatesOf f)) (phases (gatesOf f)) (score (gatesOf f)) (inverters (gatesOf f))
+count-paper f a m p = counted-distinct a (Gates (cnots (gatesOf f)) (phases (gatesOf f)) (score (gatesOf f)) (inverters (gatesOf f))) (rw p at m)

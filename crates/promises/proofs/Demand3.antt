@@ -117,7 +117,7 @@ module _ (n : ℕ) (t : List ℕ) (good : outcome (tableChecks n t) ≡ passed) 
       (λ s h. built-agrees s (subst (λ (k : ℕ). s < 2 ^ k) w h))
 
   built-bytes : Bytes (builtFile n t)
-  built-bytes = file-bytes (n + 1) (construction n (valueAt t)) (omega (arith, few)) (omega (arith, few-gates n t some few)) (sound-construction n (valueAt t))
+  built-bytes = file-bytes 1 (n + 1) (construction n (valueAt t)) (omega arith) (omega (arith, few)) (omega (arith, few-gates n t some few)) (sound-construction n (valueAt t))
 
   abbrev folded : List ℕ
   folded = foldedFile (builtFile n t)

@@ -43,9 +43,14 @@ denied : {A : Type 0} (t : Bool) → Shows t A → ¬ A → t ≡ false
 denied true h n = absurd (n (h .0 refl))
 denied false h n = refl
 
-module _ (w p kind a b c : ℕ) where
-  shows-kind : Shows (badKind kind) (BadKind kind)
-  shows-kind = shows-and (not (eqb kind 1)) (not (eqb kind 2)) (shows-not (eqb kind 1) (shows-same kind 1)) (shows-not (eqb kind 2) (shows-same kind 2))
+module _ (version w p kind a b c : ℕ) where
+  shows-isnt : (m n : ℕ) → Shows (not (eqb m n)) (¬ (m ≡ n))
+  shows-isnt m n = shows-not (eqb m n) (shows-same m n)
+
+  shows-kind : Shows (badKind version kind) (BadKind version kind)
+  shows-kind =
+      shows-and (not (eqb kind 1) && not (eqb kind 2)) (not (eqb kind 3) || not (eqb version 2)) (shows-and (not (eqb kind 1)) (not (eqb kind 2)) (shows-isnt kind 1) (shows-isnt kind 2))
+      (shows-or (not (eqb kind 3)) (not (eqb version 2)) (shows-isnt kind 3) (shows-isnt version 2))
 
   shows-wire : Shows (badWire w kind a b) (BadWire w kind a b)
   shows-wire = shows-or (leb w a) (eqb kind 1 && leb w b) (shows-most w a) (shows-and (eqb kind 1) (leb w b) (shows-same kind 1) (shows-most w b))
@@ -53,29 +58,31 @@ module _ (w p kind a b c : ℕ) where
   shows-equal : Shows (equalWires kind a b) (EqualWires kind a b)
   shows-equal = shows-and (eqb kind 1) (eqb a b) (shows-same kind 1) (shows-same a b)
 
-  shows-spare : Shows (badSpare kind c) (BadSpare kind c)
-  shows-spare = shows-and (eqb kind 1) (not (eqb c 0)) (shows-same kind 1) (shows-not (eqb c 0) (shows-same c 0))
+  shows-spare : Shows (badSpare kind b c) (BadSpare kind b c)
+  shows-spare =
+      shows-or (eqb kind 1 && not (eqb c 0)) (eqb kind 3 && (not (eqb b 0) || not (eqb c 0))) (shows-and (eqb kind 1) (not (eqb c 0)) (shows-same kind 1) (shows-isnt c 0))
+      (shows-and (eqb kind 3) (not (eqb b 0) || not (eqb c 0)) (shows-same kind 3) (shows-or (not (eqb b 0)) (not (eqb c 0)) (shows-isnt b 0) (shows-isnt c 0)))
 
   -- what each answer means for the bytes
   abbrev Means : Decoded → Type 0
-  Means (Bad Kind) = BadKind kind
-  Means (Bad Wire) = ¬ (BadKind kind) × BadWire w kind a b
-  Means (Bad Equal) = ¬ (BadKind kind) × ¬ (BadWire w kind a b) × EqualWires kind a b
-  Means (Bad Spare) = ¬ (BadKind kind) × ¬ (BadWire w kind a b) × ¬ (EqualWires kind a b) × BadSpare kind c
-  Means (Good g) = ¬ (BadKind kind) × ¬ (BadWire w kind a b) × ¬ (EqualWires kind a b) × ¬ (BadSpare kind c)
+  Means (Bad Kind) = BadKind version kind
+  Means (Bad Wire) = ¬ (BadKind version kind) × BadWire w kind a b
+  Means (Bad Equal) = ¬ (BadKind version kind) × ¬ (BadWire w kind a b) × EqualWires kind a b
+  Means (Bad Spare) = ¬ (BadKind version kind) × ¬ (BadWire w kind a b) × ¬ (EqualWires kind a b) × BadSpare kind b c
+  Means (Good g) = ¬ (BadKind version kind) × ¬ (BadWire w kind a b) × ¬ (EqualWires kind a b) × ¬ (BadSpare kind b c)
 
-  meant : Means (decoded w p kind a b c)
-  meant = by (badKind kind) (badWire w kind a b) (equalWires kind a b) (badSpare kind c) refl refl refl refl
+  meant : Means (decoded version w p kind a b c)
+  meant = by (badKind version kind) (badWire w kind a b) (equalWires kind a b) (badSpare kind b c) refl refl refl refl
     where
-      by : (k v e s : Bool) → badKind kind ≡ k → badWire w kind a b ≡ v → equalWires kind a b ≡ e → badSpare kind c ≡ s → Means (decoded w p kind a b c)
-      by true v e s k₁ v₁ e₁ s₁ = subst Means (sym (bad-kind w p kind a b c k₁)) (shows-kind .0 k₁)
-      by false true e s k₁ v₁ e₁ s₁ = subst Means (sym (bad-wire w p kind a b c k₁ v₁)) (shows-kind .1 k₁, shows-wire .0 v₁)
-      by false false true s k₁ v₁ e₁ s₁ = subst Means (sym (equal-wires w p kind a b c k₁ v₁ e₁)) (shows-kind .1 k₁, shows-wire .1 v₁, shows-equal .0 e₁)
-      by false false false true k₁ v₁ e₁ s₁ = subst Means (sym (bad-spare w p kind a b c k₁ v₁ e₁ s₁)) (shows-kind .1 k₁, shows-wire .1 v₁, shows-equal .1 e₁, shows-spare .0 s₁)
-      by false false false false k₁ v₁ e₁ s₁ = subst Means (sym (no-fault w p kind a b c k₁ v₁ e₁ s₁)) (shows-kind .1 k₁, shows-wire .1 v₁, shows-equal .1 e₁, shows-spare .1 s₁)
+      by : (k v e s : Bool) → badKind version kind ≡ k → badWire w kind a b ≡ v → equalWires kind a b ≡ e → badSpare kind b c ≡ s → Means (decoded version w p kind a b c)
+      by true v e s k₁ v₁ e₁ s₁ = subst Means (sym (bad-kind version w p kind a b c k₁)) (shows-kind .0 k₁)
+      by false true e s k₁ v₁ e₁ s₁ = subst Means (sym (bad-wire version w p kind a b c k₁ v₁)) (shows-kind .1 k₁, shows-wire .0 v₁)
+      by false false true s k₁ v₁ e₁ s₁ = subst Means (sym (equal-wires version w p kind a b c k₁ v₁ e₁)) (shows-kind .1 k₁, shows-wire .1 v₁, shows-equal .0 e₁)
+      by false false false true k₁ v₁ e₁ s₁ = subst Means (sym (bad-spare version w p kind a b c k₁ v₁ e₁ s₁)) (shows-kind .1 k₁, shows-wire .1 v₁, shows-equal .1 e₁, shows-spare .0 s₁)
+      by false false false false k₁ v₁ e₁ s₁ = subst Means (sym (no-fault version w p kind a b c k₁ v₁ e₁ s₁)) (shows-kind .1 k₁, shows-wire .1 v₁, shows-equal .1 e₁, shows-spare .1 s₁)
 
-  kind-fails : ¬ (BadKind kind) → badKind kind ≡ false
-  kind-fails = denied (badKind kind) shows-kind
+  kind-fails : ¬ (BadKind version kind) → badKind version kind ≡ false
+  kind-fails = denied (badKind version kind) shows-kind
 
   wire-fails : ¬ (BadWire w kind a b) → badWire w kind a b ≡ false
   wire-fails = denied (badWire w kind a b) shows-wire
@@ -84,13 +91,13 @@ module _ (w p kind a b c : ℕ) where
   equal-fails = denied (equalWires kind a b) shows-equal
 
   -- "tried in that order"
-  pub first-fault : FirstFault w p kind a b c
+  pub first-fault : FirstFault version w p kind a b c
   first-fault = record {
-    kindFirst = (λ e. subst Means e meant, λ x. bad-kind w p kind a b c (shown (badKind kind) shows-kind x));
-    thenWire = (λ e. subst Means e meant, λ h. bad-wire w p kind a b c (kind-fails (h .0)) (shown (badWire w kind a b) shows-wire (h .1)));
-    thenEqual = (λ e. subst Means e meant, λ h. equal-wires w p kind a b c (kind-fails (h .0)) (wire-fails (h .1)) (shown (equalWires kind a b) shows-equal (h .2)));
-    thenSpare = (λ e. subst Means e meant, λ h. bad-spare w p kind a b c (kind-fails (h .0)) (wire-fails (h .1)) (equal-fails (h .2)) (shown (badSpare kind c) shows-spare (h .3)));
-    elseGood = (λ e. subst Means e meant, λ h. no-fault w p kind a b c (kind-fails (h .0)) (wire-fails (h .1)) (equal-fails (h .2)) (denied (badSpare kind c) shows-spare (h .3)));
+    kindFirst = (λ e. subst Means e meant, λ x. bad-kind version w p kind a b c (shown (badKind version kind) shows-kind x));
+    thenWire = (λ e. subst Means e meant, λ h. bad-wire version w p kind a b c (kind-fails (h .0)) (shown (badWire w kind a b) shows-wire (h .1)));
+    thenEqual = (λ e. subst Means e meant, λ h. equal-wires version w p kind a b c (kind-fails (h .0)) (wire-fails (h .1)) (shown (equalWires kind a b) shows-equal (h .2)));
+    thenSpare = (λ e. subst Means e meant, λ h. bad-spare version w p kind a b c (kind-fails (h .0)) (wire-fails (h .1)) (equal-fails (h .2)) (shown (badSpare kind b c) shows-spare (h .3)));
+    elseGood = (λ e. subst Means e meant, λ h. no-fault version w p kind a b c (kind-fails (h .0)) (wire-fails (h .1)) (equal-fails (h .2)) (denied (badSpare kind b c) shows-spare (h .3)));
   }
 
 -- no two reasons have one number

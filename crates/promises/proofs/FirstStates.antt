@@ -16,12 +16,12 @@ use Rattle.numbers.specs.Turn.{difference}
 use Rattle.refusal.specs.Checks.{passed, outcome}
 use Rattle.table.specs.Table.{valueAt}
 use Rattle.circuit.specs.Gates.{bytesOf, gatesFrom}
-use Rattle.circuit.specs.Working.{AllSound}
+use Rattle.circuit.specs.Working.{AllSound, AllAdmitted}
 use Rattle.circuit.specs.File.{wiresOf, gatesOf, fileChecks, fileOf}
 use Rattle.circuit.proofs.Files.{wires-written, list-written, written-passes}
 use Rattle.running.specs.Run.{endFrom, phaseFrom, totalFrom}
 use Rattle.build.specs.Construction.{construction}
-use Rattle.build.proofs.Circuits.{sound-construction}
+use Rattle.build.proofs.Circuits.{sound-construction, admitted-construction}
 use Rattle.build.proofs.Files.{construction-count}
 use Rattle.verdict.specs.declared.Verdict.{Verdict}
 use Rattle.verdict.specs.declared.Verdict.the-variants.{Same, Different}
@@ -54,7 +54,7 @@ verdict-last w l a b e agrees parts = verdict-found a b w l (record { within = o
 
 -- a circuit of no gates turns nothing
 pub nothing : ℕ → List ℕ
-nothing w = fileOf w []
+nothing w = fileOf 1 w []
 
 still : Side
 still = record { end = λ s. s; phase = λ s. 0 }
@@ -64,12 +64,12 @@ unfolding nothing still fileOf bytesOf gatesFrom endFrom totalFrom
 nothing-does w s = record { ends = refl; phases = refl }
 
 nothing-passes : (w side : ℕ) → 1 ≤ w → w ≤ 10 → outcome (fileChecks side (nothing w)) ≡ passed
-unfolding nothing AllSound
-nothing-passes w side some few = written-passes w [] side some few tt (omega arith)
+unfolding nothing AllSound AllAdmitted
+nothing-passes w side some few = written-passes 1 w [] tt tt side (omega arith) (omega arith) some few (omega arith)
 
 nothing-wires : (w : ℕ) → wiresOf (nothing w) ≡ w
 unfolding nothing
-nothing-wires w = wires-written w []
+nothing-wires w = wires-written 1 w []
 
 -- where f is 0 but at the last x, its ideal turns the last state alone
 module _ (n : ℕ) (f : ℕ → ℕ) (zeros : (x : ℕ) → suc x < 2 ^ n → f x ≡ 0) where
@@ -103,19 +103,19 @@ nine-zero x h = rw (ne-eqb x 511 (λ e. omega arith))
 
 -- 10 wires and 2,046 gates
 pub oracle : List ℕ
-oracle = fileOf 10 (construction 9 all-nine)
+oracle = fileOf 1 10 (construction 9 all-nine)
 
 oracle-passes : (side : ℕ) → outcome (fileChecks side oracle) ≡ passed
 unfolding oracle
-oracle-passes side = written-passes 10 (construction 9 all-nine) side (omega arith) (omega arith) (sound-construction 9 all-nine) (omega (arith, construction-count 9 all-nine (omega arith)))
+oracle-passes side = written-passes 1 10 (construction 9 all-nine) (sound-construction 9 all-nine) (admitted-construction 1 9 all-nine) side (omega arith) (omega arith) (omega arith) (omega arith) (omega (arith, construction-count 9 all-nine (omega arith)))
 
 oracle-wires : wiresOf oracle ≡ 10
 unfolding oracle
-oracle-wires = wires-written 10 (construction 9 all-nine)
+oracle-wires = wires-written 1 10 (construction 9 all-nine)
 
 oracle-agrees : (s : ℕ) → s < 1024 → Agree (circuit (gatesOf oracle)) (ideal 9 all-nine) s
 unfolding oracle
-oracle-agrees s h = rw (list-written 10 (construction 9 all-nine) (sound-construction 9 all-nine)) (construction-agrees 9 all-nine (omega arith) nine-value s h)
+oracle-agrees s h = rw (list-written 1 10 (construction 9 all-nine) (sound-construction 9 all-nine) (admitted-construction 1 9 all-nine)) (construction-agrees 9 all-nine (omega arith) nine-value s h)
 
 agrees : (s : ℕ) → s < 1023 → Agree (circuit (gatesOf oracle)) (circuit (gatesOf (nothing 10))) s
 agrees s h =

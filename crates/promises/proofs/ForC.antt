@@ -28,8 +28,8 @@ one-phg-value t x r s e d = e ∙ sym d
 pub one-phg-spectrum : (n : ℕ) (t : List ℕ) (out : List ℤ) → NoSecond (Tells (Transforms n t out) transformedSays)
 one-phg-spectrum n t out = tells-one (Transforms n t out) transformedSays (one-spectrum n t out)
 
-pub one-phg-decode : (w p k x y z : ℕ) → NoSecondAnswer (λ (ns : List ℕ). ns ≡ decodedNumbers (decoded w p k x y z))
-one-phg-decode w p k x y z ns ms e d = e ∙ sym d
+pub one-phg-decode : (v w p k x y z : ℕ) → NoSecondAnswer (λ (ns : List ℕ). ns ≡ decodedNumbers (decoded v w p k x y z))
+one-phg-decode v w p k x y z ns ms e d = e ∙ sym d
 
 pub one-phg-read : (f : List ℕ) → NoSecondAnswer (TellsAnswer (Reads f) readingSays)
 one-phg-read f = tells-answer-one (Reads f) readingSays (one-reading f)

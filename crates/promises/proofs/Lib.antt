@@ -10,3 +10,5 @@ pub mod Cases
 pub mod Wrong
 pub mod FirstStates
 pub mod ForC
+pub mod Inverters
+pub mod Version1

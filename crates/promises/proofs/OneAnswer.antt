@@ -32,8 +32,8 @@ one-check n t a b = one-said checked-distinct a b
 pub one-spectrum : (n : ℕ) (t : List ℕ) (out : List ℤ) → NoSecond (Transforms n t out)
 one-spectrum n t out = one-answer transformedSays _ _ _ out transformed-distinct
 
-pub one-decoding : (w p k x y z : ℕ) → NoSecondAnswer (λ (a : Decoded). a ≡ decoded w p k x y z)
-one-decoding w p k x y z a b e d = e ∙ sym d
+pub one-decoding : (v w p k x y z : ℕ) → NoSecondAnswer (λ (a : Decoded). a ≡ decoded v w p k x y z)
+one-decoding v w p k x y z a b e d = e ∙ sym d
 
 pub one-side-reading : (s : ℕ) (f : List ℕ) → NoSecondAnswer (ReadsSide s f)
 one-side-reading s f a b = one-said reading-distinct a b

@@ -105,16 +105,19 @@ module _ (s : ℕ) (f : List ℕ) (file : ℕ → List ℕ) (given : file s ≡ 
           λ _. (
             λ _. row VERSION refl,
             λ _. (
-              λ _. row WIRES refl,
+              λ _. row VERSION refl,
               λ _. (
                 λ _. row WIRES refl,
                 λ _. (
-                  λ _. row COUNT refl,
+                  λ _. row WIRES refl,
                   λ _. (
-                    λ _. row LENGTH refl,
-                    λ whole. (
-                      λ h. gate-row h whole,
-                      λ _. tt,
+                    λ _. row COUNT refl,
+                    λ _. (
+                      λ _. row LENGTH refl,
+                      λ whole. (
+                        λ h. gate-row h whole,
+                        λ _. tt,
+                      ),
                     ),
                   ),
                 ),

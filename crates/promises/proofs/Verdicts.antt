@@ -1,5 +1,5 @@
 -- The third demand of any two circuits, and of a circuit and a table: for every pair of files and every table that pass the checks, whoever made the file.
-use Prim.Native.Nat.{ℕ, _+_, _^_, _<_, _≤_}
+use Prim.Native.Nat.{ℕ, suc, _+_, _^_, _<_, _≤_}
 use mathlib.Core.Path.{_≡_, refl, sym, ap, _∙_}
 use mathlib.Core.Logic.{inl, inr}
 use mathlib.Core.List.{List}
@@ -14,7 +14,7 @@ use Rattle.verdict.specs.declared.Verdict.{Verdict}
 use Rattle.verdict.specs.declared.Verdict.the-variants.{Same, Different}
 use Rattle.verdict.specs.declared.Compared.{Compared}
 use Rattle.verdict.specs.declared.Compared.the-variants.{Found}
-use Rattle.coefficients.specs.Coefficients.{coefficient}
+use Rattle.coefficients.specs.Coefficients.{listedStart, coefficient}
 use Rattle.verdict.specs.Verdicts.{Side, circuit, ideal, verdict, Agree, Named}
 use Rattle.verdict.specs.Judging.{compareChecks, judgeChecks, Compares, Judges}
 use Rattle.verdict.proofs.Lowest.{same-agree, agree-same, different-named}
@@ -63,14 +63,14 @@ module _ (n : ℕ) (t f work : List ℕ) (answer : Compared) (after : List ℕ) 
   pub judge-named : (s e h p : ℕ) → answer ≡ Found (Different s e h p) → Named (circuit (gatesOf f)) (ideal n (valueAt t)) (wiresOf f) s e h p
   judge-named s e h p q = different-named (circuit (gatesOf f)) (ideal n (valueAt t)) (wiresOf f) s e h p (sym (judge-finds n t f work answer after m (Different s e h p) q .1))
 
--- two circuits agree everywhere exactly where all coefficients and all single-wire ends agree: "the coefficients settle it"
+-- two circuits agree everywhere exactly where all coefficients and all listed ends agree: "the coefficients settle it"
 module _ (w : ℕ) (gs hs : List Gate) (x : AllSound w gs) (y : AllSound w hs) where
-  pub coefficients-settle : ((s : ℕ) → s < 2 ^ w → coefficient w gs s ≡ coefficient w hs s) → ((j : ℕ) → j < w → endFrom gs (2 ^ j) ≡ endFrom hs (2 ^ j))
+  pub coefficients-settle : ((s : ℕ) → s < 2 ^ w → coefficient w gs s ≡ coefficient w hs s) → ((j : ℕ) → j < suc w → endFrom gs (listedStart j) ≡ endFrom hs (listedStart j))
       → (s : ℕ) → s < 2 ^ w → Agree (circuit gs) (circuit hs) s
   coefficients-settle = agree-everywhere w (circuit gs) (circuit hs) (coefficient w gs) (coefficient w hs) (circuit-summed w gs x) (circuit-summed w hs y)
 
   pub agree-coefficients : ((s : ℕ) → s < 2 ^ w → Agree (circuit gs) (circuit hs) s) → (s : ℕ) → s < 2 ^ w → coefficient w gs s ≡ coefficient w hs s
   agree-coefficients = everywhere-coefficients w (circuit gs) (circuit hs) (coefficient w gs) (coefficient w hs) (circuit-summed w gs x) (circuit-summed w hs y)
 
-  pub agree-ends : ((s : ℕ) → s < 2 ^ w → Agree (circuit gs) (circuit hs) s) → (j : ℕ) → j < w → endFrom gs (2 ^ j) ≡ endFrom hs (2 ^ j)
+  pub agree-ends : ((s : ℕ) → s < 2 ^ w → Agree (circuit gs) (circuit hs) s) → (j : ℕ) → j < suc w → endFrom gs (listedStart j) ≡ endFrom hs (listedStart j)
   agree-ends = everywhere-ends w (circuit gs) (circuit hs) (coefficient w gs) (coefficient w hs) (circuit-summed w gs x) (circuit-summed w hs y)

@@ -17,18 +17,18 @@ use Rattle.refusal.proofs.Rooms.{room-suffices}
 use Rattle.refusal.proofs.Contracts.{says-refused}
 use Rattle.table.specs.Table.{tableChecks, checkedSays}
 use Rattle.spectrum.specs.Spectrum.{spectrumChecks, transformedSays}
-use Rattle.circuit.specs.declared.Gate.the-variants.{Cnot, Phase}
+use Rattle.circuit.specs.declared.Gate.the-variants.{Cnot, Phase, Inverter}
 use Rattle.circuit.specs.declared.Reading.the-variants.{Refused as ReadRefused}
 use Rattle.circuit.specs.Gates.{decoded, firstBad, gatesFrom, bytesOf}
-use Rattle.circuit.specs.Working.{AllSound}
+use Rattle.circuit.specs.Working.{AllSound, AllAdmitted}
 use Rattle.circuit.specs.File.{headerBytes, gatesOf, fileOf, fileChecks, readingSays, Reads}
 use Rattle.circuit.proofs.Files.{list-written}
 use Rattle.running.specs.declared.Counted.{Counted}
 use Rattle.running.specs.declared.Counted.the-variants.{Gates}
-use Rattle.running.specs.Run.{endFrom, totalFrom, cnots, phases, freeTurn, scores, scoreBy, runChecks, ranSays, countedSays, Counts}
+use Rattle.running.specs.Run.{endFrom, totalFrom, cnots, phases, freeTurn, scores, scoreBy, inverters, runChecks, ranSays, countedSays, Counts}
 use Rattle.running.proofs.Counts.{multiple-is-free, free-is-multiple}
 use Rattle.running.proofs.Callers.{count-answers}
-use Rattle.running.specs.Masks.{masksFrom, sumMet}
+use Rattle.running.specs.Masks.{heldFrom, sumMet}
 use Rattle.build.specs.Construction.{buildChecks, builtSays}
 use Rattle.fold.specs.declared.Folded.the-variants.{File}
 use Rattle.fold.specs.Fold.{foldedFrom, foldChecks, foldedSays, Folds}
@@ -44,10 +44,11 @@ use Rattle.listing.specs.Text.{decimalFrom}
 use Rattle.oracle_listing.specs.Oracle.{oracleChecks}
 use Rattle.oracle_listing.proofs.Callers.{room-for-text}
 use Rattle.promises.specs.Demands.{Refuses}
-use Rattle.promises.specs.Cases.{builtHere, empty}
-use Rattle.promises.specs.Wrong.{Unacceptable, checking, transforming, reading, running, counting, building, folding, comparing, judging, listing, listingOracle, RefusesEverything, AlwaysFinds, LeavesBuffer, Copies, firstMask, firstGroup, FoldsFirstGroup, AlwaysScores, AlwaysScoresBefore, AlwaysScoresAfter, ScoresBy, AlwaysReasons, lastReason, ReasonsByLast}
+use Rattle.promises.specs.Cases.{builtHere, empty, onOne, emptyOnOne, twoFlips}
+use Rattle.promises.specs.Wrong.{Unacceptable, checking, transforming, reading, running, counting, building, folding, comparing, judging, listing, listingOracle, RefusesEverything, AlwaysFinds, LeavesBuffer, Copies, firstHeld, firstGroup, FoldsFirstGroup, AlwaysScores, AlwaysScoresBefore, AlwaysScoresAfter, ScoresBy, AlwaysReasons, lastReason, ReasonsByLast, NeverNamesZero}
+use Rattle.promises.specs.MasksAlone.{foldedByMaskFrom, FoldsByMask}
 use Rattle.promises.proofs.OneAnswer.{one-reading, one-count, one-build, one-fold, one-comparison, one-judgement}
-use Rattle.promises.proofs.Cases.{build-here, cnot-differs}
+use Rattle.promises.proofs.Cases.{build-here, cnot-differs, turned-differs}
 
 -- no program that goes wrong at every input in such a way meets its contract at every input
 pub no-program : {Input Answer Entry : Type 0} (Contract Wrong : Input → Answer → List Entry → Type 0) → Unacceptable Contract Wrong
@@ -119,7 +120,7 @@ same-file = record { says = refl; leaves = refl }
 
 -- "CNOT 0 to 1 differs at 1"
 one-cnot : List ℕ
-one-cnot = fileOf 2 (Cnot 0 1 ∷ [])
+one-cnot = fileOf 1 2 (Cnot 0 1 ∷ [])
 
 -- Same fails where CNOT 0 to 1 meets the empty circuit; any Different fails where a circuit meets itself
 pub constant-verdict : (v : Verdict) → Unacceptable comparing (AlwaysFinds v)
@@ -164,10 +165,10 @@ leaves-buffer = record {
 
 -- wire 0 by 1 then by 65,535: the result has no gate, and a copy has two
 opposite : List ℕ
-opposite = fileOf 1 (Phase 0 1 ∷ Phase 0 65535 ∷ [])
+opposite = fileOf 1 1 (Phase 0 1 ∷ Phase 0 65535 ∷ [])
 
-opposite-folds : Folds opposite (replicate 16 0) (File 8 2 0) (fileOf 1 [] ++ replicate 8 0)
-unfolding opposite outcome fileOf bytesOf decoded firstBad gatesFrom foldedFrom masksFrom sumMet scoreBy
+opposite-folds : Folds opposite (replicate 16 0) (File 8 2 0) (fileOf 1 1 [] ++ replicate 8 0)
+unfolding opposite outcome fileOf bytesOf decoded firstBad gatesFrom foldedFrom heldFrom sumMet scoreBy
 opposite-folds = record { says = refl; leaves = refl }
 
 pub copies : Unacceptable folding Copies
@@ -179,14 +180,14 @@ copies = record {
 
 -- two groups of two: 1 and 2 on wire 0, 3 and 4 on wire 1
 two-groups : List ℕ
-two-groups = fileOf 2 (Phase 0 1 ∷ Phase 0 2 ∷ Phase 1 3 ∷ Phase 1 4 ∷ [])
+two-groups = fileOf 1 2 (Phase 0 1 ∷ Phase 0 2 ∷ Phase 1 3 ∷ Phase 1 4 ∷ [])
 
-two-groups-fold : Folds two-groups (replicate 24 0) (File 16 4 2) (fileOf 2 (Phase 0 3 ∷ Phase 1 7 ∷ []) ++ replicate 8 0)
-unfolding two-groups outcome fileOf bytesOf decoded firstBad gatesFrom foldedFrom masksFrom sumMet scoreBy
+two-groups-fold : Folds two-groups (replicate 24 0) (File 16 4 2) (fileOf 1 2 (Phase 0 3 ∷ Phase 1 7 ∷ []) ++ replicate 8 0)
+unfolding two-groups outcome fileOf bytesOf decoded firstBad gatesFrom foldedFrom heldFrom sumMet scoreBy
 two-groups-fold = record { says = refl; leaves = refl }
 
 pub first-group-only : Unacceptable folding FoldsFirstGroup
-unfolding two-groups fileOf bytesOf decoded gatesFrom foldedFrom masksFrom sumMet firstGroup firstMask
+unfolding two-groups fileOf bytesOf decoded gatesFrom foldedFrom heldFrom sumMet firstGroup firstHeld
 first-group-only = record {
   input = (two-groups, replicate 24 0);
   fails = λ a x e m. let q = sym e ∙ one-fold two-groups (replicate 24 0) a _ x _ m two-groups-fold .1 in let z : _≡_ {A = ℕ} 3 2 = ap (λ l. getD l 7 0) q in omega arith;
@@ -195,19 +196,19 @@ first-group-only = record {
 -- ---- an invented score
 
 one-phase : List ℕ
-one-phase = fileOf 2 (Phase 0 1 ∷ [])
+one-phase = fileOf 1 2 (Phase 0 1 ∷ [])
 
-none-counted : Counts empty (Gates 0 0 0)
-unfolding outcome fileOf bytesOf firstBad gatesFrom cnots phases scoreBy
+none-counted : Counts empty (Gates 0 0 0 0)
+unfolding outcome fileOf bytesOf firstBad gatesFrom cnots phases scoreBy inverters
 none-counted = refl
 
-one-counted : Counts one-phase (Gates 0 1 1)
-unfolding one-phase outcome fileOf bytesOf decoded firstBad gatesFrom cnots phases scoreBy
+one-counted : Counts one-phase (Gates 0 1 1 0)
+unfolding one-phase outcome fileOf bytesOf decoded firstBad gatesFrom cnots phases scoreBy inverters
 one-counted = refl
 
 -- folding's scores are both 1 for the one phase gate, 0 for no gate
 one-folded : Folds one-phase (replicate 12 0) (File 12 1 1) one-phase
-unfolding one-phase outcome fileOf bytesOf decoded firstBad gatesFrom foldedFrom masksFrom sumMet scoreBy
+unfolding one-phase outcome fileOf bytesOf decoded firstBad gatesFrom foldedFrom heldFrom sumMet scoreBy
 one-folded = record { says = refl; leaves = refl }
 
 none-folded : Folds empty (replicate 8 0) (File 8 0 0) empty
@@ -224,8 +225,8 @@ invented Contract Scores one none is-one is-none (suc s) = record { input = none
 pub invented-score : (s : ℕ) → Unacceptable counting (AlwaysScores s)
 invented-score =
     invented counting AlwaysScores one-phase empty
-    (λ s a x m e. let q : Gates (e .0) (e .1) s ≡ Gates 0 1 1 = sym (e .2) ∙ one-count one-phase a _ m one-counted in cc)
-    (λ s a x m e. let q : Gates (e .0) (e .1) s ≡ Gates 0 0 0 = sym (e .2) ∙ one-count empty a _ m none-counted in cc)
+    (λ s a x m e. let q : Gates (e .0) (e .1) s (e .2) ≡ Gates 0 1 1 0 = sym (e .3) ∙ one-count one-phase a _ m one-counted in cc)
+    (λ s a x m e. let q : Gates (e .0) (e .1) s (e .2) ≡ Gates 0 0 0 0 = sym (e .3) ∙ one-count empty a _ m none-counted in cc)
 
 pub invented-score-before : (s : ℕ) → Unacceptable folding (AlwaysScoresBefore s)
 invented-score-before =
@@ -243,14 +244,14 @@ invented-score-after =
 
 -- one phase gate of an angle
 alone : ℕ → List ℕ
-alone a = fileOf 1 (Phase 0 a ∷ [])
+alone a = fileOf 1 1 (Phase 0 a ∷ [])
 
 -- a score by d meets the contract only where both numbers have the angle free, or neither
 scored-alike : (d a : ℕ) → a < 65536 → (r : Counted) (x : List ℕ) → ScoresBy d (alone a) r x → Counts (alone a) r → scores d a ≡ scores freeTurn a
-unfolding alone AllSound scoreBy
+unfolding alone AllSound AllAdmitted scoreBy
 scored-alike d a l r x e m =
-    let g : gatesOf (fileOf 1 (Phase 0 a ∷ [])) ≡ Phase 0 a ∷ [] = list-written 1 (Phase 0 a ∷ []) ((omega arith, l), tt) in
-    let k = rw g at (count-answers (alone a) r m (e .0) (e .1) (scoreBy d (gatesOf (alone a))) (e .2) .has-score) in
+    let g : gatesOf (fileOf 1 1 (Phase 0 a ∷ [])) ≡ Phase 0 a ∷ [] = list-written 1 1 (Phase 0 a ∷ []) ((omega arith, l), tt) (tt, tt) in
+    let k = rw g at (count-answers (alone a) r m (e .0) (e .1) (scoreBy d (gatesOf (alone a))) (e .2) (e .3) .has-score) in
     omega arith
 
 pub another-free-turn : (d : ℕ) → ¬ (d ≡ freeTurn) → Unacceptable counting (ScoresBy d)
@@ -270,7 +271,7 @@ another-free-turn d other = by (decDvd d freeTurn)
 
 -- two bad gates: the first of no kind, the second from wire 0 to itself
 two-bad : List ℕ
-two-bad = headerBytes 2 2 ++ (0 ∷ 0 ∷ 0 ∷ 0 ∷ 1 ∷ 0 ∷ 0 ∷ 0 ∷ [])
+two-bad = headerBytes 1 2 2 ++ (0 ∷ 0 ∷ 0 ∷ 0 ∷ 1 ∷ 0 ∷ 0 ∷ 0 ∷ [])
 
 two-bad-read : Reads two-bad (ReadRefused (badGate 0 0 1))
 unfolding two-bad outcome decoded firstBad
@@ -278,7 +279,7 @@ two-bad-read = refl
 
 -- the second of them alone
 one-bad : List ℕ
-one-bad = headerBytes 2 1 ++ (1 ∷ 0 ∷ 0 ∷ 0 ∷ [])
+one-bad = headerBytes 1 2 1 ++ (1 ∷ 0 ∷ 0 ∷ 0 ∷ [])
 
 one-bad-read : Reads one-bad (ReadRefused (badGate 0 0 3))
 unfolding one-bad outcome decoded firstBad
@@ -302,4 +303,24 @@ unfolding two-bad decoded lastReason
 last-reason = record {
   input = two-bad;
   fails = λ a l wrong m. let z : _≡_ {A = ℕ} 1 3 = wrong (badGate 0 0 1) (one-reading two-bad a _ m two-bad-read) refl in omega arith;
+}
+
+-- ---- never names start 0, and folds by masks alone
+
+pub never-names-zero : Unacceptable comparing NeverNamesZero
+never-names-zero = record {
+  input = (onOne (Inverter 0 ∷ []), emptyOnOne, replicate 2 0);
+  fails = λ a x wrong m. wrong 0 1 0 0 (one-comparison (onOne (Inverter 0 ∷ [])) emptyOnOne (replicate 2 0) a _ x _ m turned-differs .0) refl;
+}
+
+-- the groups of 14 and 7 would be one of 21
+two-flips-fold : Folds twoFlips (replicate 28 0) (File 24 3 2) (onOne (Phase 0 14 ∷ Inverter 0 ∷ Phase 0 7 ∷ Inverter 0 ∷ []) ++ replicate 4 0)
+unfolding outcome fileOf bytesOf decoded firstBad gatesFrom foldedFrom heldFrom sumMet scoreBy
+two-flips-fold = record { says = refl; leaves = refl }
+
+pub masks-alone-folded : Unacceptable folding FoldsByMask
+unfolding fileOf bytesOf decoded gatesFrom foldedByMaskFrom heldFrom sumMet
+masks-alone-folded = record {
+  input = (twoFlips, replicate 28 0);
+  fails = λ a x e m. let q = sym e ∙ one-fold twoFlips (replicate 28 0) a _ x _ m two-flips-fold .1 in let z : _≡_ {A = ℕ} 21 14 = ap (λ l. getD l 11 0) q in omega arith;
 }

@@ -13,8 +13,9 @@ use Rattle.circuit.specs.Gates.{decoded, good, gateSaid, reasonNumber}
 use Rattle.circuit.specs.File.{countOf, gateAt}
 
 -- 01, "A gate is bad if its kind is neither 1 nor 2, a wire isn't below w, control equals target, or a CNOT's last byte isn't 0.": the four faults, as facts
-abbrev pub BadKind : ℕ → Type 0
-BadKind kind = ¬ (kind ≡ 1) × ¬ (kind ≡ 2)
+-- 02 §12, "File version 2 admits kind 3"
+abbrev pub BadKind : ℕ → ℕ → Type 0
+BadKind version kind = (¬ (kind ≡ 1) × ¬ (kind ≡ 2)) × (¬ (kind ≡ 3) ⊎ ¬ (version ≡ 2))
 
 abbrev pub BadWire : ℕ → ℕ → ℕ → ℕ → Type 0
 BadWire w kind a b = (w ≤ a) ⊎ ((kind ≡ 1) × (w ≤ b))
@@ -22,16 +23,17 @@ BadWire w kind a b = (w ≤ a) ⊎ ((kind ≡ 1) × (w ≤ b))
 abbrev pub EqualWires : ℕ → ℕ → ℕ → Type 0
 EqualWires kind a b = (kind ≡ 1) × (a ≡ b)
 
-abbrev pub BadSpare : ℕ → ℕ → Type 0
-BadSpare kind c = (kind ≡ 1) × ¬ (c ≡ 0)
+-- 02 §12, "a nonzero byte in the last two of kind 3 is the spare reason"
+abbrev pub BadSpare : ℕ → ℕ → ℕ → Type 0
+BadSpare kind b c = ((kind ≡ 1) × ¬ (c ≡ 0)) ⊎ ((kind ≡ 3) × (¬ (b ≡ 0) ⊎ ¬ (c ≡ 0)))
 
 -- "tried in that order": of several faults the first is the reason; without one the gate is good
-pub record FirstFault (w p kind a b c : ℕ) : Type 0 where
-  pub kindFirst : (decoded w p kind a b c ≡ Bad Kind) ↔ BadKind kind
-  pub thenWire : (decoded w p kind a b c ≡ Bad Wire) ↔ (¬ (BadKind kind) × BadWire w kind a b)
-  pub thenEqual : (decoded w p kind a b c ≡ Bad Equal) ↔ (¬ (BadKind kind) × ¬ (BadWire w kind a b) × EqualWires kind a b)
-  pub thenSpare : (decoded w p kind a b c ≡ Bad Spare) ↔ (¬ (BadKind kind) × ¬ (BadWire w kind a b) × ¬ (EqualWires kind a b) × BadSpare kind c)
-  pub elseGood : (decoded w p kind a b c ≡ good p (gateSaid kind a b c)) ↔ (¬ (BadKind kind) × ¬ (BadWire w kind a b) × ¬ (EqualWires kind a b) × ¬ (BadSpare kind c))
+pub record FirstFault (version w p kind a b c : ℕ) : Type 0 where
+  pub kindFirst : (decoded version w p kind a b c ≡ Bad Kind) ↔ BadKind version kind
+  pub thenWire : (decoded version w p kind a b c ≡ Bad Wire) ↔ (¬ (BadKind version kind) × BadWire w kind a b)
+  pub thenEqual : (decoded version w p kind a b c ≡ Bad Equal) ↔ (¬ (BadKind version kind) × ¬ (BadWire w kind a b) × EqualWires kind a b)
+  pub thenSpare : (decoded version w p kind a b c ≡ Bad Spare) ↔ (¬ (BadKind version kind) × ¬ (BadWire w kind a b) × ¬ (EqualWires kind a b) × BadSpare kind b c)
+  pub elseGood : (decoded version w p kind a b c ≡ good p (gateSaid kind a b c)) ↔ (¬ (BadKind version kind) × ¬ (BadWire w kind a b) × ¬ (EqualWires kind a b) × ¬ (BadSpare kind b c))
 
 -- the gate at position p is the file's first bad one, and x the number of its reason
 pub record FirstBadGate (f : List ℕ) (p x : ℕ) : Type 0 where

@@ -17,19 +17,19 @@ use Rattle.spectrum.specs.Spectrum.{Transforms}
 use Rattle.circuit.specs.declared.Reading.{Reading}
 use Rattle.circuit.specs.declared.Reading.the-variants.{Refused as ReadRefused}
 use Rattle.circuit.specs.declared.Gate.{Gate}
-use Rattle.circuit.specs.declared.Gate.the-variants.{Cnot, Phase}
+use Rattle.circuit.specs.declared.Gate.the-variants.{Cnot, Phase, Inverter}
 use Rattle.circuit.specs.Gates.{decodedAt, reasonOf}
-use Rattle.circuit.specs.File.{wiresOf, countOf, gatesOf, fileOf, Reads}
+use Rattle.circuit.specs.File.{versionOf, wiresOf, countOf, gatesOf, fileOf, Reads}
 use Rattle.running.specs.declared.Ran.{Ran}
 use Rattle.running.specs.declared.Counted.{Counted}
 use Rattle.running.specs.declared.Counted.the-variants.{Gates}
 use Rattle.running.specs.Run.{Runs, scoreBy, Counts}
-use Rattle.running.specs.Masks.{ownMasks, masksAfter}
+use Rattle.running.specs.Masks.{Held, held, heldAt, ownHeld, heldAfter}
 use Rattle.build.specs.declared.Built.{Built}
 use Rattle.build.specs.Construction.{Builds}
 use Rattle.fold.specs.declared.Folded.{Folded}
 use Rattle.fold.specs.declared.Folded.the-variants.{File}
-use Rattle.running.specs.Groups.{maskAt}
+use Rattle.running.specs.Groups.{sameHeld, heldBefore}
 use Rattle.fold.specs.Fold.{becomes, Folds}
 use Rattle.verdict.specs.declared.Verdict.{Verdict}
 use Rattle.verdict.specs.declared.Verdict.the-variants.{Same, Different}
@@ -98,24 +98,26 @@ LeavesBuffer input answer after = after ≡ input .2
 abbrev pub Copies : {Answer : Type 0} → List ℕ × List ℕ → Answer → List ℕ → Type 0
 Copies input answer after = after ≡ input .0 ++ drop (length (input .0)) (input .1)
 
--- the mask at which the first phase gate is met
-unfoldable pub firstMask : List Gate → List ℕ → ℕ
-firstMask [] ms = 0
-firstMask (Cnot c t ∷ gs) ms = firstMask gs (masksAfter (Cnot c t) ms)
-firstMask (Phase i a ∷ gs) ms = getD ms i 0
+-- what the first phase gate meets
+unfoldable pub firstHeld : List Gate → List Held → Held
+firstHeld [] hs = held 0 0
+firstHeld (Cnot c t ∷ gs) hs = firstHeld gs (heldAfter (Cnot c t) hs)
+firstHeld (Phase i a ∷ gs) hs = heldAt hs i
+firstHeld (Inverter i ∷ gs) hs = firstHeld gs (heldAfter (Inverter i) hs)
 
 abbrev pub staysUnless : ℕ → List Gate → ℕ → Gate → List Gate
 staysUnless w gs p (Cnot c t) = Cnot c t ∷ []
-staysUnless w gs p (Phase i a) = cond (eqb (maskAt w gs p i) (firstMask gs (ownMasks w))) (becomes w gs p (Phase i a)) (Phase i a ∷ [])
+staysUnless w gs p (Phase i a) = cond (eqb (sameHeld (heldBefore w gs p i) (firstHeld gs (ownHeld w))) 1) (becomes w gs p (Phase i a)) (Phase i a ∷ [])
+staysUnless w gs p (Inverter i) = Inverter i ∷ []
 
--- "a fold that treats the first group only": gates of other masks stay as they are
+-- "a fold that treats the first group only": gates of other groups stay as they are
 unfoldable pub firstGroup : ℕ → List Gate → ℕ → List Gate → List Gate
 firstGroup w gs p [] = []
 firstGroup w gs p (g ∷ rest) = staysUnless w gs p g ++ firstGroup w gs (suc p) rest
 
 abbrev pub FoldsFirstGroup : {Answer : Type 0} → List ℕ × List ℕ → Answer → List ℕ → Type 0
 FoldsFirstGroup input answer after =
-    let file = fileOf (wiresOf (input .0)) (firstGroup (wiresOf (input .0)) (gatesOf (input .0)) 0 (gatesOf (input .0))) in
+    let file = fileOf (versionOf (input .0)) (wiresOf (input .0)) (firstGroup (wiresOf (input .0)) (gatesOf (input .0)) 0 (gatesOf (input .0))) in
     after ≡ file ++ drop (length file) (input .1)
 
 -- the verdict of the first k states alone
@@ -134,7 +136,7 @@ JudgesFirst k input answer after = answer ≡ Found (verdictAmong k (circuit (ga
 
 -- "an invented score": whatever the file
 abbrev pub AlwaysScores : ℕ → List ℕ → Counted → List ℕ → Type 0
-AlwaysScores s input answer after = (c : ℕ) × (p : ℕ) × (answer ≡ Gates c p s)
+AlwaysScores s input answer after = (c : ℕ) × (p : ℕ) × (x : ℕ) × (answer ≡ Gates c p s x)
 
 -- the same of folding's two scores
 abbrev pub AlwaysScoresBefore : ℕ → List ℕ × List ℕ → Folded → List ℕ → Type 0
@@ -145,7 +147,7 @@ AlwaysScoresAfter s input answer after = (l : ℕ) × (b : ℕ) × (answer ≡ F
 
 -- 02 §2, "isn't a multiple of 16,384": the multiples of another number are free
 abbrev pub ScoresBy : ℕ → List ℕ → Counted → List ℕ → Type 0
-ScoresBy d input answer after = (c : ℕ) × (p : ℕ) × (answer ≡ Gates c p (scoreBy d (gatesOf input)))
+ScoresBy d input answer after = (c : ℕ) × (p : ℕ) × (x : ℕ) × (answer ≡ Gates c p (scoreBy d (gatesOf input)) x)
 
 -- 02 §4, "Refusal 10 hands the reason on": one that is the same for every bad gate is not handed on, 0 among them
 abbrev pub AlwaysReasons : ℕ → List ℕ → Reading → List ℕ → Type 0
@@ -157,10 +159,14 @@ orElse zero other = other
 orElse (suc x) other = suc x
 
 -- the reason of the last bad gate; 0 where none is bad
-unfoldable pub lastReason : ℕ → ℕ → ℕ → List ℕ → ℕ
-lastReason w zero p bs = 0
-lastReason w (suc n) p bs = orElse (lastReason w n (suc p) (drop 4 bs)) (reasonOf (decodedAt w p bs))
+unfoldable pub lastReason : ℕ → ℕ → ℕ → ℕ → List ℕ → ℕ
+lastReason version w zero p bs = 0
+lastReason version w (suc n) p bs = orElse (lastReason version w n (suc p) (drop 4 bs)) (reasonOf (decodedAt version w p bs))
 
 -- nor is that of the last bad gate
 abbrev pub ReasonsByLast : List ℕ → Reading → List ℕ → Type 0
-ReasonsByLast input answer after = (r : Refusal) → answer ≡ ReadRefused r → r .number ≡ GATE → r .reason ≡ lastReason (wiresOf input) (countOf input) 0 (drop 8 input)
+ReasonsByLast input answer after = (r : Refusal) → answer ≡ ReadRefused r → r .number ≡ GATE → r .reason ≡ lastReason (versionOf input) (wiresOf input) (countOf input) 0 (drop 8 input)
+
+-- 02 §12, "a differing state may now be 0": a comparison that never names it
+abbrev pub NeverNamesZero : {Input : Type 0} → Input → Compared → List ℕ → Type 0
+NeverNamesZero input answer after = (s e f p : ℕ) → answer ≡ Found (Different s e f p) → ¬ (s ≡ 0)

@@ -1,6 +1,6 @@
 -- The numbers of the code are the paper's masks and flips, gate by gate; and what a wire holds is never an empty mask.
 use Prim.Native.Nat.{ℕ, suc, _+_, _*_, _/_, _%_, _^_, _<_}
-use native.Mathlib.Nat.{one-mul, zero-mul}
+use native.Mathlib.Nat.{zero-add, add-assoc, one-mul, zero-mul}
 use native.Mathlib.Decide.{ℕ-discrete, decLt}
 use native.Mathlib.Omega.{arith}
 use mathlib.Core.Path.{_≡_, refl, sym, ap, ap₂, _∙_}
@@ -80,6 +80,13 @@ sum-splits : (f : Held → ℕ → ℕ) (gs : List Gate) (ns : List ℕ) (hs : L
 unfolding sumMet sumNumbers
 sum-splits f [] ns hs s = refl
 sum-splits f (g ∷ gs) ns hs s = ap₂ _+_ (meets-splits f g ns hs s) (sum-splits f gs (numbersAfter g ns) (heldAfter g hs) (after-splits g ns hs s))
+
+-- one circuit after another
+pub sum-behind : (f : Held → ℕ → ℕ) (xs ys : List Gate) (hs : List Held) → sumMet f (xs ++ ys) hs ≡ sumMet f xs hs + sumMet f ys (heldFrom xs hs)
+unfolding sumMet heldFrom
+sum-behind f [] ys hs = sym (zero-add (sumMet f ys hs))
+sum-behind f (g ∷ xs) ys hs =
+    ap (meets f g hs +_) (sum-behind f xs ys (heldAfter g hs)) ∙ sym (add-assoc (meets f g hs) (sumMet f xs (heldAfter g hs)) (sumMet f ys (heldFrom xs (heldAfter g hs))))
 
 module _ (w : ℕ) (gs : List Gate) where
   -- what wire i holds after a circuit
