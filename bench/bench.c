@@ -30,10 +30,13 @@ static u32 below(u32 n) {
 
 typedef struct { __attribute__((aligned(64))) u8 bytes[FILE_ROOM]; size_t len; } File;
 
-static void random_gate(u8 *g, u32 w) {
+/* In version 2 one of eight is an inverter. */
+static void random_gate(u8 *g, u32 version, u32 w) {
     u32 a = below(w);
     g[1] = (u8)a;
-    if (w > 1 && below(2)) {
+    if (version == 2 && below(8) == 0) {
+        g[0] = 3, g[2] = 0, g[3] = 0;
+    } else if (w > 1 && below(2)) {
         g[0] = 1, g[2] = (u8)((a + 1 + below(w - 1)) % w), g[3] = 0;
     } else {
         u32 angle = below(8) ? below(65536) : below(16) << 12; /* some round ones, and some zeros */
@@ -41,11 +44,19 @@ static void random_gate(u8 *g, u32 w) {
     }
 }
 
-static void random_file(File *f, u32 w, u32 gates) {
-    u8 head[8] = {0x50, 0x48, 0x47, 0, 1, (u8)w, (u8)(gates >> 8), (u8)gates};
+static void random_file(File *f, u32 version, u32 w, u32 gates) {
+    u8 head[8] = {0x50, 0x48, 0x47, 0, (u8)version, (u8)w, (u8)(gates >> 8), (u8)gates};
     memcpy(f->bytes, head, 8);
-    for (u32 i = 0; i < gates; i++) random_gate(f->bytes + 8 + 4 * i, w);
+    for (u32 i = 0; i < gates; i++) random_gate(f->bytes + 8 + 4 * i, version, w);
     f->len = 8 + 4 * gates;
+}
+
+/* Whether two gates may change places; two CNOTs never do. */
+static int commute(const u8 *p, const u8 *q) {
+    if (p[0] == q[0]) return p[0] != 1;
+    if (q[0] == 1) return commute(q, p);
+    if (p[0] == 1) return q[1] != (q[0] == 2 ? p[2] : p[1]); /* a phase on its target, an inverter on its control */
+    return p[1] != q[1];
 }
 
 /* The same circuit in another order: neighbours change places where they commute. */
@@ -55,16 +66,14 @@ static void reorder(File *to, const File *from) {
     for (u32 turn = 0; turn < 4; turn++)
         for (u32 i = turn & 1; i + 1 < gates; i++) {
             u8 *p = to->bytes + 8 + 4 * i, *q = p + 4, keep[4];
-            int commute = p[0] == 2 && q[0] == 2;
-            if (p[0] == 2 && q[0] == 1) commute = p[1] != q[2];
-            if (p[0] == 1 && q[0] == 2) commute = q[1] != p[2];
-            if (!commute || below(2)) continue;
+            if (!commute(p, q) || below(2)) continue;
             memcpy(keep, p, 4), memcpy(p, q, 4), memcpy(q, keep, 4);
         }
 }
 
 static void damage(File *f) {
-    switch (below(7)) {
+    switch (below(8)) {
+    case 7: f->bytes[3] = (u8)(below(4) == 0), f->bytes[4] = (u8)below(4); break; /* version, at times a good one */
     case 6: f->bytes[6] = (u8)(8 + below(248)), f->bytes[7] |= 1; break; /* count */
     case 5: f->bytes[5] = (u8)(below(4) ? 11 + below(245) : 0); break; /* wires */
     case 0: f->len = below(4) ? (f->len > 3 ? f->len - 1 - below(3) : 0) : below(9); break;
@@ -73,6 +82,16 @@ static void damage(File *f) {
     case 3: f->bytes[below((u32)f->len)] ^= (u8)(1u << below(8)); break;
     default: f->bytes[below((u32)f->len)] = (u8)below(256);
     }
+}
+
+/* A good file as version 2, with an inverter before its gates and one behind them, on one wire. */
+static void invert_around(File *f) {
+    u8 inverter[4] = {3, (u8)below(f->bytes[5]), 0, 0};
+    u32 gates = (u32)(f->len - 8) / 4 + 2;
+    for (size_t i = f->len; i > 8; i--) f->bytes[i + 3] = f->bytes[i - 1];
+    memcpy(f->bytes + 8, inverter, 4), memcpy(f->bytes + f->len + 4, inverter, 4);
+    f->bytes[4] = 2, f->bytes[6] = (u8)(gates >> 8), f->bytes[7] = (u8)gates;
+    f->len += 8;
 }
 
 static size_t random_table(u8 *t, u32 n) {
@@ -171,14 +190,15 @@ static void random_cases(u32 cases) {
     static File f, g, built;
     u8 t[40];
     for (u32 c = 0; c < cases; c++) {
-        u32 w = 1 + below(10), gates = below(3) ? below(40) : below(2049);
-        random_file(&f, w, gates);
-        switch (below(3)) {
-        case 0: random_file(&g, below(8) ? w : 1 + below(10), below(60)); break;
+        u32 version = 1 + below(2), w = 1 + below(10), gates = below(3) ? below(40) : below(2049);
+        random_file(&f, version, w, gates);
+        switch (below(4)) {
+        case 0: random_file(&g, 1 + below(2), below(8) ? w : 1 + below(10), below(60)); break;
         case 1: reorder(&g, &f); break;
+        case 2: reorder(&g, &f), g.bytes[4] = 2; break; /* which admits what version 1 does */
         default:
             reorder(&g, &f); /* and one gate other than it was */
-            if (gates) random_gate(g.bytes + 8 + 4 * below(gates), w);
+            if (gates) random_gate(g.bytes + 8 + 4 * below(gates), version, w);
         }
         if (below(3) == 0) damage(below(2) ? &f : &g);
         if (below(16) == 0) damage(&f), damage(&g);
@@ -195,6 +215,7 @@ static void random_cases(u32 cases) {
         same_build(n, t, len, FILE_ROOM);
         if (ours[0] == 0) memcpy(built.bytes, out_ours.bytes, built.len = ours[1]);
         else built = f;
+        if (ours[0] == 0 && below(2)) invert_around(&built);
         if (below(3) == 0) t[below((u32)len)] ^= (u8)(1u << below(8));
         if (below(8) == 0) len = below(34);
         same_build(n, t, len, some_room(n < 9 ? 16u << n : 16, FILE_ROOM));
@@ -209,7 +230,7 @@ static void random_cases(u32 cases) {
 
 #define SETS 8
 static struct {
-    File file, other, built;
+    File file, other, flipped, flipped_other, built; /* the flipped ones are of version 2 */
     u8 table[32];
 } sets[SETS];
 
@@ -228,6 +249,20 @@ static void our_compare(u32 i) {
 }
 static void c_compare(u32 i) {
     plain_compare(sets[i].file.bytes, sets[i].file.len, sets[i].other.bytes, sets[i].other.len, WORK(out_plain), 1024, plains);
+}
+static void our_flipped_fold(u32 i) {
+    phg_fold(sets[i].flipped.bytes, sets[i].flipped.len, OUT(out_ours), FILE_ROOM, ours);
+}
+static void c_flipped_fold(u32 i) {
+    plain_fold(sets[i].flipped.bytes, sets[i].flipped.len, OUT(out_plain), FILE_ROOM, plains);
+}
+static void our_flipped_compare(u32 i) {
+    phg_compare(sets[i].flipped.bytes, sets[i].flipped.len, sets[i].flipped_other.bytes, sets[i].flipped_other.len,
+                WORK(out_ours), 1024, ours);
+}
+static void c_flipped_compare(u32 i) {
+    plain_compare(sets[i].flipped.bytes, sets[i].flipped.len, sets[i].flipped_other.bytes, sets[i].flipped_other.len,
+                  WORK(out_plain), 1024, plains);
 }
 static void brute(u32 i) {
     brute_compare(sets[i].file.bytes, sets[i].file.len, sets[i].other.bytes, sets[i].other.len, plains);
@@ -294,14 +329,19 @@ int main(int argc, char **argv) {
         printf("This processor is not x86-64: the program runs under an emulator. The times say nothing by themselves, only "
                "the ratios do, and they are ratios under emulation.\n\n");
     for (u32 i = 0; i < SETS; i++) {
-        random_file(&sets[i].file, 10, 2048);
+        random_file(&sets[i].file, 1, 10, 2048);
         reorder(&sets[i].other, &sets[i].file);
+        random_file(&sets[i].flipped, 2, 10, 2048);
+        reorder(&sets[i].flipped_other, &sets[i].flipped);
         random_table(sets[i].table, 8);
         same_build(8, sets[i].table, 32, FILE_ROOM);
         memcpy(sets[i].built.bytes, out_ours.bytes, sets[i].built.len = ours[1]);
         same_fold(&sets[i].file, FILE_ROOM);
         same_compare(&sets[i].file, &sets[i].other, 1024, 1);
         if (ours[1]) printf("compare's inputs are not the same circuit\n"), exit(1);
+        same_fold(&sets[i].flipped, FILE_ROOM);
+        same_compare(&sets[i].flipped, &sets[i].flipped_other, 1024, 1);
+        if (ours[1]) printf("compare's inputs of version 2 are not the same circuit\n"), exit(1);
         same_judge(8, sets[i].table, 32, &sets[i].built, 1024);
         if (ours[1]) printf("judge's input is not the table's oracle\n"), exit(1);
         same_list(&sets[i].file, 1, LIST_ROOM);
@@ -316,7 +356,9 @@ int main(int argc, char **argv) {
     printf("| %-30s | %12s | %12s | %9s |\n|---|---|---|---|\n", "operation", "ours", "plain C", "ratio");
     measure("build, n = 8", our_build, c_build, ROUNDS);
     measure("fold, w = 10, 2,048 gates", our_fold, c_fold, ROUNDS);
+    measure("fold, version 2", our_flipped_fold, c_flipped_fold, ROUNDS);
     measure("compare, w = 10, 2,048 gates", our_compare, c_compare, ROUNDS);
+    measure("compare, version 2", our_flipped_compare, c_flipped_compare, ROUNDS);
     measure("judge, n = 8, w = 9", our_judge, c_judge, ROUNDS);
     measure("list, w = 10, 2,048 gates", our_list, c_list, ROUNDS);
     measure("run, w = 10, 2,048 gates", our_run, c_run, ROUNDS);

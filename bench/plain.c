@@ -30,35 +30,38 @@ static int table_refused(u8 n, const u8 *table, size_t len, u64 *r) {
     return why;
 }
 
-typedef struct { u32 w, gates, cnots, score; } Info;
+/* unphased: the CNOTs and the inverters */
+typedef struct { u32 version, w, gates, unphased, score; } Info;
 
 /* 1 for a bad gate. Its four bytes stand in x, the first lowest; the last two are one number, so that a CNOT's target is
- * below w and its last byte 0 in one test. */
-static inline u32 is_bad(u32 x, u32 w) {
+ * below w and its last byte 0 in one test. `inverter` is x without its wire for an inverter; in version 1 it is what no x
+ * is. */
+static inline u32 is_bad(u32 x, u32 w, u32 inverter) {
     u32 kind = x & 255, a = x >> 8 & 255, rest = x >> 16;
     u32 cnot = (kind == 1) & (rest < w) & (a != rest);
-    return !(((kind == 2) | cnot) & (a < w));
+    return !(((kind == 2) | cnot | ((x & 0xffff00ffu) == inverter)) & (a < w));
 }
 
-/* What is wrong with a bad gate, as phg.h numbers it. */
-static u64 reason_of(u32 x, u32 w) {
+/* What is wrong with a bad gate, as phg.h numbers it. Version 1 has the kinds 1 and 2, version 2 also 3. */
+static u64 reason_of(u32 x, u32 w, u32 version) {
     u32 kind = x & 255, a = x >> 8 & 255, b = x >> 16 & 255;
-    if (kind != 1 && kind != 2) return PHG_REASON_KIND;
+    if (kind == 0 || kind > version + 1) return PHG_REASON_KIND;
     if (a >= w || (kind == 1 && b >= w)) return PHG_REASON_WIRE;
-    return a == b ? PHG_REASON_EQUAL : PHG_REASON_SPARE;
+    return kind == 1 && a == b ? PHG_REASON_EQUAL : PHG_REASON_SPARE;
 }
 
 /* One pass over the gates without a branch on them, so that it vectorises; a second only where one is bad. Inlined, so
  * that a caller pays only for the counts that it uses. */
 static inline __attribute__((always_inline)) int file_refused(const u8 *f, size_t len, u64 side, Info *info, u64 *r) {
     u64 why = 0;
-    u32 w = 0, gates = 0;
+    u32 version = 0, w = 0, gates = 0;
     if (len < 8) why = PHG_SHORT;
     else {
+        version = (u32)f[3] << 8 | f[4];
         w = f[5];
         gates = (u32)f[6] << 8 | f[7];
         if (f[0] != 0x50 || f[1] != 0x48 || f[2] != 0x47) why = PHG_MARK;
-        else if (f[3] != 0 || f[4] != 1) why = PHG_VERSION;
+        else if (version != 1 && version != 2) why = PHG_VERSION;
         else if (w == 0 || w > 10) why = PHG_WIRES;
         else if (gates > 2048) why = PHG_COUNT;
         else if (len != 8 + 4 * (size_t)gates) why = PHG_LENGTH;
@@ -68,21 +71,21 @@ static inline __attribute__((always_inline)) int file_refused(const u8 *f, size_
         return 1;
     }
     const u8 *g = f + 8;
-    u32 bad = 0, cnots = 0, score = 0;
+    u32 bad = 0, unphased = 0, score = 0, inverter = version == 2 ? 3 : 0x100;
     for (u32 i = 0; i < gates; i++) {
         u32 x = load32(g + 4 * i);
-        bad |= is_bad(x, w);
-        cnots += x & 1;
+        bad |= is_bad(x, w, inverter);
+        unphased += x & 1;
         /* the angle's low byte is the highest here; its bits 14 and 15 do not score */
         score += (u32)((x & 1) == 0) & (u32)((x & 0xff3f0000u) != 0);
     }
     if (bad) {
         u32 i = 0;
-        while (!is_bad(load32(g + 4 * i), w)) i++;
-        say(r, PHG_GATE, side, i, reason_of(load32(g + 4 * i), w), 0, 0);
+        while (!is_bad(load32(g + 4 * i), w, inverter)) i++;
+        say(r, PHG_GATE, side, i, reason_of(load32(g + 4 * i), w, version), 0, 0);
         return 1;
     }
-    info->w = w, info->gates = gates, info->cnots = cnots, info->score = score;
+    info->version = version, info->w = w, info->gates = gates, info->unphased = unphased, info->score = score;
     return 0;
 }
 
@@ -97,6 +100,21 @@ static inline void step(u32 x, u32 *state, u32 *phase) {
     *phase += -(one & ~cnot) & angle_of(x);
 }
 
+/* The same where there are inverters, which turn their bit whatever it is. */
+static inline void flipping_step(u32 x, u32 *state, u32 *phase) {
+    u32 a = x >> 8 & 31, one = *state >> a & 1, cnot = (x & 3) == 1, inverter = (x & 3) == 3;
+    *state ^= (one & cnot) << (x >> 16 & 31) | inverter << a;
+    *phase += -(one & ~x) & angle_of(x);
+}
+
+/* A good file's gates, one after the other. */
+static inline void walk(const u8 *f, const Info *info, u32 *state, u32 *phase) {
+    if (info->version == 1)
+        for (u32 i = 0; i < info->gates; i++) step(load32(f + 8 + 4 * i), state, phase);
+    else
+        for (u32 i = 0; i < info->gates; i++) flipping_step(load32(f + 8 + 4 * i), state, phase);
+}
+
 void plain_run(const u8 *f, size_t len, u16 start, u64 *r) {
     Info info;
     if (file_refused(f, len, 0, &info, r)) return;
@@ -105,7 +123,7 @@ void plain_run(const u8 *f, size_t len, u16 start, u64 *r) {
         return;
     }
     u32 state = start, phase = 0;
-    for (u32 i = 0; i < info.gates; i++) step(load32(f + 8 + 4 * i), &state, &phase);
+    walk(f, &info, &state, &phase);
     say(r, 0, state, phase & 65535, 0, 0, 0);
 }
 
@@ -182,24 +200,25 @@ void plain_build(u8 n, const u8 *table, size_t len, u8 *out, size_t out_len, u64
 
 /* ---- fold */
 
+/* A wire's mask has its flip in the bit behind the wires, so that a group is one number. */
 void plain_fold(const u8 *f, size_t len, u8 *out, size_t out_len, u64 *r) {
     Info info;
     if (file_refused(f, len, 0, &info, r)) return;
     const u8 *g = f + 8;
-    u32 gates = info.gates, size = 1u << info.w;
-    u16 totals[1024], masks[16], met[2048];
+    u32 gates = info.gates, flip = 1u << info.w, size = info.version == 2 ? 2 * flip : flip;
+    u16 totals[2048], masks[16], met[2048];
     CLEAR(totals, 0, 2 * size);
     for (u32 i = 0; i < 16; i++) masks[i] = (u16)(1u << i);
     for (u32 i = 0; i < gates; i++) {
         const u8 *q = g + 4 * i;
         u16 m = masks[q[1]];
         if (q[0] == 1) masks[q[2]] ^= m;
-        else {
+        else if (q[0] == 2) {
             totals[m] += (u16)(q[2] << 8 | q[3]);
             met[i] = m;
-        }
+        } else masks[q[1]] = (u16)(m ^ flip);
     }
-    u32 kept = info.cnots, after = 0;
+    u32 kept = info.unphased, after = 0;
     for (u32 m = 0; m < size; m++) {
         kept += totals[m] != 0;
         after += totals[m] % 16384 != 0;
@@ -209,7 +228,8 @@ void plain_fold(const u8 *f, size_t len, u8 *out, size_t out_len, u64 *r) {
         say(r, PHG_ROOM, 0, 0, 0, 0, 0);
         return;
     }
-    store64(out, 0x0100474850ull | (u64)info.w << 40 | (u64)(kept >> 8) << 48 | (u64)(kept & 255) << 56);
+    store64(out, 0x0000474850ull | (u64)info.version << 32 | (u64)info.w << 40 | (u64)(kept >> 8) << 48 |
+                     (u64)(kept & 255) << 56);
     u8 *p = out + 8;
     for (u32 i = 0; i < gates; i++) {
         u32 x = load32(g + 4 * i);
@@ -243,9 +263,10 @@ void plain_fold(const u8 *f, size_t len, u8 *out, size_t out_len, u64 *r) {
 static const u16 weights[1024] = {W512(0, 1, 65534, 4, 65528, 16, 65504, 64, 65408, 256),
                                   W512(1, 65534, 4, 65528, 16, 65504, 64, 65408, 256, 65024)};
 
+#define FLIP 0x8000u /* in a wire's mask */
+
 /* Each angle, or its opposite, is added at its mask. */
 static inline __attribute__((always_inline)) void tally(const u8 *g, u32 gates, u16 *masks, u16 *v, int minus) {
-    for (u32 i = 0; i < 16; i++) masks[i] = (u16)(1u << i);
     for (u32 i = 0; i < gates; i++) {
         const u8 *q = g + 4 * i;
         u16 m = masks[q[1]];
@@ -253,6 +274,31 @@ static inline __attribute__((always_inline)) void tally(const u8 *g, u32 gates, 
         else if (minus) v[m] -= (u16)(q[2] << 8 | q[3]);
         else v[m] += (u16)(q[2] << 8 | q[3]);
     }
+}
+
+/* The same where there are inverters: at a flipped mask the opposite, and the angle to the constant, which is answered. */
+static inline __attribute__((always_inline)) u16 flipping_tally(const u8 *g, u32 gates, u16 *masks, u16 *v, int minus) {
+    u16 constant = 0;
+    for (u32 i = 0; i < gates; i++) {
+        const u8 *q = g + 4 * i;
+        u16 m = masks[q[1]];
+        if (q[0] == 1) masks[q[2]] ^= m;
+        else if (q[0] == 2) {
+            u16 angle = (u16)(q[2] << 8 | q[3]), flipped = (u16)-(m >> 15);
+            if (minus) angle = (u16)-angle;
+            constant += angle & flipped;
+            v[m & ~FLIP] += (u16)((angle ^ flipped) - flipped);
+        } else masks[q[1]] = (u16)(m ^ FLIP);
+    }
+    return constant;
+}
+
+/* A good file's angles, or their opposites; the answer is the constant, and each wire's mask at the end is in `masks`. */
+static inline __attribute__((always_inline)) u16 sums(const u8 *f, const Info *info, u16 *masks, u16 *v, int minus) {
+    for (u32 i = 0; i < 16; i++) masks[i] = (u16)(1u << i);
+    if (info->version == 2) return flipping_tally(f + 8, info->gates, masks, v, minus);
+    tally(f + 8, info->gates, masks, v, minus);
+    return 0;
 }
 
 /* At each set the sum over the sets that contain it, then by its weight. Steps of 4 and more vectorise as they stand;
@@ -282,7 +328,7 @@ static void gather(u16 *v, u32 size) {
 
 static u32 end_at(const u16 *masks, u32 w, u32 state) {
     u32 end = 0;
-    for (u32 j = 0; j < w; j++) end |= (u32)__builtin_parity(masks[j] & state) << j;
+    for (u32 j = 0; j < w; j++) end |= ((u32)__builtin_parity(masks[j] & state) ^ masks[j] >> 15) << j;
     return end;
 }
 
@@ -298,7 +344,8 @@ static void settle(const u16 *v, const u16 *firsts, const u16 *seconds, u32 w, u
     while (place < size && !v[place]) place++;
     u32 unlike = 0;
     for (u32 j = 0; j < w; j++) unlike |= (u32)(firsts[j] ^ seconds[j]);
-    u32 single = unlike ? unlike & -unlike : size; /* 2^i for the first wire i whose start ends differently */
+    /* 0 where that start ends differently, else 2^i for the first wire i whose start does */
+    u32 single = unlike & FLIP ? 0 : unlike ? unlike & -unlike : size;
     u32 state = place < single ? place : single;
     if (state < size) say(r, 0, 1, state, end_at(firsts, w, state), end_at(seconds, w, state), v[state]);
     else say(r, 0, 0, 0, 0, 0, 0);
@@ -317,9 +364,10 @@ void plain_compare(const u8 *first, size_t first_len, const u8 *second, size_t s
     }
     u16 firsts[16], seconds[16];
     CLEAR(work, 0, 2 * size);
-    tally(first + 8, one.gates, firsts, work, 0);
-    tally(second + 8, two.gates, seconds, work, 1);
+    u16 constant = sums(first, &one, firsts, work, 0);
+    constant += sums(second, &two, seconds, work, 1);
     gather(work, size);
+    work[0] = constant;
     settle(work, firsts, seconds, one.w, r);
 }
 
@@ -335,8 +383,9 @@ void plain_judge(u8 n, const u8 *table, size_t len, const u8 *f, size_t file_len
     }
     u16 firsts[16], seconds[16];
     CLEAR(work, 0, 2 * size);
-    tally(f + 8, info.gates, firsts, work, 0);
+    u16 constant = sums(f, &info, firsts, work, 0);
     gather(work, size);
+    work[0] = constant;
     u64 t[4] = {0, 0, 0, 0};
     COPY(t, table, len);
     for (u32 i = 0; i < 4; i++) {
@@ -376,7 +425,7 @@ static inline u32 digits_of(u32 k) { return 1 + (k > 9) + (k > 99) + (k > 999) +
 static inline u32 power_of(u32 angle) { return 15 - (u32)__builtin_ctz(angle | 0x8000); }
 
 static size_t line_length(u32 x) {
-    if (x & 1) return 14;
+    if (x & 1) return x & 2 ? 8 : 14;
     u32 angle = angle_of(x), e = power_of(angle);
     return 7 + digits_of(angle >> (15 - e)) + over[e].length;
 }
@@ -385,6 +434,10 @@ static size_t line_length(u32 x) {
 static inline u8 *put_line(u8 *p, u32 x) {
     u32 a = x >> 8 & 255;
     if (x & 1) {
+        if (x & 2) {
+            store64(p, 0x0a3b5d005b712078ull | (u64)('0' + a) << 32); /* x q[a];n */
+            return p + 8;
+        }
         store64(p, 0x2c5d005b71207863ull | (u64)('0' + a) << 40);              /* cx q[a], */
         store64(p + 6, 0x0a3b5d005b712c5dull | (u64)('0' + (x >> 16 & 255)) << 32); /* ],q[b];n */
         return p + 14;
@@ -449,8 +502,8 @@ void brute_compare(const u8 *first, size_t first_len, const u8 *second, size_t s
     if (file_refused(second, second_len, 1, &two, r)) return;
     for (u32 start = 0; start >> one.w == 0; start++) {
         u32 a = start, b = start, phase = 0, other = 0;
-        for (u32 i = 0; i < one.gates; i++) step(load32(first + 8 + 4 * i), &a, &phase);
-        for (u32 i = 0; i < two.gates; i++) step(load32(second + 8 + 4 * i), &b, &other);
+        walk(first, &one, &a, &phase);
+        walk(second, &two, &b, &other);
         if (a != b || (u16)phase != (u16)other) {
             say(r, 0, 1, start, a, b, (u16)(phase - other));
             return;

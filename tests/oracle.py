@@ -9,6 +9,8 @@ from math import gcd
 
 Cnot = namedtuple("Cnot", "control target")
 Phase = namedtuple("Phase", "wire angle")
+Inverter = namedtuple("Inverter", "wire")
+Circuit = namedtuple("Circuit", "version wires gates")
 Held = namedtuple("Held", "position gate")
 Bad = namedtuple("Bad", "reason")
 Different = namedtuple("Different", "state first_end second_end phase")
@@ -115,11 +117,13 @@ def build(n, table, room=None):
 
 # Circuit file
 
-def encode(w, gates):
-    file = b"PHG" + bytes([0, 1, w]) + len(gates).to_bytes(2, "big")
+def encode(w, gates, version=1):
+    file = b"PHG" + version.to_bytes(2, "big") + bytes([w]) + len(gates).to_bytes(2, "big")
     for gate in gates:
         if isinstance(gate, Cnot):
             file += bytes([1, gate.control, gate.target, 0])
+        elif isinstance(gate, Inverter):
+            file += bytes([3, gate.wire, 0, 0])
         else:
             file += bytes([2, gate.wire]) + gate.angle.to_bytes(2, "big")
     return file
@@ -128,10 +132,13 @@ def encode(w, gates):
 KIND, WIRE, EQUAL, SPARE = 1, 2, 3, 4
 
 
-def faults(w, four):
+def faults(version, w, four):
     """02 §4: all that is wrong with a gate, in the order in which the reasons are tried."""
     kind, second, third, fourth = four
     wires = {1: (second, third), 2: (second,)}
+    spare = {1: (fourth,), 2: (), 3: (third, fourth)}
+    if version == 2:
+        wires[3] = (second,)
     if kind not in wires:
         yield KIND
         return
@@ -139,30 +146,36 @@ def faults(w, four):
         yield WIRE
     if kind == 1 and second == third:
         yield EQUAL
-    if kind == 1 and fourth != 0:
+    if any(byte != 0 for byte in spare[kind]):
         yield SPARE
 
 
-def decode(w, position, four):
+def decode(version, w, position, four):
     kind, second, third, fourth = four
-    for reason in faults(w, four):
+    for reason in faults(version, w, four):
         return Bad(reason)
-    return Held(position, Cnot(second, third) if kind == 1 else Phase(second, third * 256 + fourth))
+    gates = {1: Cnot(second, third), 2: Phase(second, third * 256 + fourth), 3: Inverter(second)}
+    return Held(position, gates[kind])
+
+
+def version_of(file):
+    return file[3] * 256 + file[4]
 
 
 def gate_at(file, position):
     """The gate at a position of a file; without a kind where its bytes do not all lie in the file."""
     four = file[8 + 4 * position:12 + 4 * position]
-    return decode(file[5], position, four) if len(four) == 4 else Bad(KIND)
+    return decode(version_of(file), file[5], position, four) if len(four) == 4 else Bad(KIND)
 
 
 def parse(file, side=0):
-    """The wires and the gates of a file, or its refusal."""
+    """The circuit of a file, or its refusal."""
     if len(file) < 8:
         raise Refused(SHORT, side)
     if file[0:3] != b"PHG":
         raise Refused(MARK, side)
-    if file[3] * 256 + file[4] != 1:
+    version = version_of(file)
+    if version not in (1, 2):
         raise Refused(VERSION, side)
     w = file[5]
     if w == 0 or w > 10:
@@ -175,16 +188,16 @@ def parse(file, side=0):
     gates = []
     for position in range(number):
         start = 8 + 4 * position
-        decoded = decode(w, position, file[start:start + 4])
+        decoded = decode(version, w, position, file[start:start + 4])
         if isinstance(decoded, Bad):
             raise Refused(GATE, side, position, decoded.reason)
         gates.append(decoded.gate)
-    return w, gates
+    return Circuit(version, w, gates)
 
 
 def read(file, side=0):
-    w, gates = parse(file, side)
-    return w, len(gates)
+    circuit = parse(file, side)
+    return circuit.wires, len(circuit.gates)
 
 
 # Running, counting, folding
@@ -195,28 +208,31 @@ def run_gates(gates, start):
         if isinstance(gate, Cnot):
             if state >> gate.control & 1:
                 state ^= 1 << gate.target
+        elif isinstance(gate, Inverter):
+            state ^= 1 << gate.wire
         elif state >> gate.wire & 1:
             total = (total + gate.angle) % 65536
     return state, total
 
 
 def run(file, start):
-    w, gates = parse(file)
+    version, w, gates = parse(file)
     if start >= 2 ** w:
         raise Refused(STATE)
     return run_gates(gates, start)
 
 
-def masks_met(w, gates):
-    """For each position the mask on the phase gate's wire there; None at a CNOT."""
-    held = [1 << i for i in range(w)]
+def parities_met(w, gates):
+    """For each position the mask and the flip on the phase gate's wire there; None at another gate."""
+    masks, flips = [1 << i for i in range(w)], [0] * w
     met = []
     for gate in gates:
+        met.append((masks[gate.wire], flips[gate.wire]) if isinstance(gate, Phase) else None)
         if isinstance(gate, Cnot):
-            held[gate.target] ^= held[gate.control]
-            met.append(None)
-        else:
-            met.append(held[gate.wire])
+            masks[gate.target] ^= masks[gate.control]
+            flips[gate.target] ^= flips[gate.control]
+        if isinstance(gate, Inverter):
+            flips[gate.wire] ^= 1
     return met
 
 
@@ -229,20 +245,21 @@ def score(gates):
 
 
 def count(file):
-    w, gates = parse(file)
-    cnots = sum(1 for gate in gates if isinstance(gate, Cnot))
-    return cnots, len(gates) - cnots, score(gates)
+    """CNOTs, phase gates, score and inverters."""
+    gates = parse(file).gates
+    cnots, phases, inverters = (sum(1 for gate in gates if isinstance(gate, kind)) for kind in (Cnot, Phase, Inverter))
+    return cnots, phases, score(gates), inverters
 
 
 def fold_gates(w, gates):
-    met = masks_met(w, gates)
+    met = parities_met(w, gates)
     folded = []
     for p, gate in enumerate(gates):
-        if isinstance(gate, Cnot):
+        if not isinstance(gate, Phase):
             folded.append(gate)
             continue
-        an_earlier_phase_gate_met_this_mask = met[p] in met[:p]
-        if an_earlier_phase_gate_met_this_mask:
+        an_earlier_phase_gate_met_this_parity = met[p] in met[:p]
+        if an_earlier_phase_gate_met_this_parity:
             continue
         group = [gates[q].angle for q in range(len(gates)) if met[q] == met[p]]
         if sum(group) % 65536 != 0:
@@ -252,20 +269,20 @@ def fold_gates(w, gates):
 
 def fold(file, room=None):
     """The new file with the scores before and after."""
-    w, gates = parse(file)
+    version, w, gates = parse(file)
     folded = fold_gates(w, gates)
     check_room(room, 8 + 4 * len(folded))
-    return encode(w, folded), score(gates), score(folded)
+    return encode(w, folded, version), score(gates), score(folded)
 
 
 # Coefficients and verdict
 
 def coefficients(w, gates):
-    met = masks_met(w, gates)
-    phases = [(met[p], gates[p].angle) for p in range(len(gates)) if met[p] is not None]
-    found = [0]
+    met = parities_met(w, gates)
+    phases = [(*met[p], gates[p].angle) for p in range(len(gates)) if met[p] is not None]
+    found = [sum(angle for mask, flip, angle in phases if flip) % 65536]
     for S in range(1, 2 ** w):
-        total = sum(angle for mask, angle in phases if mask & S == S)
+        total = sum(-angle if flip else angle for mask, flip, angle in phases if mask & S == S)
         found.append((-2) ** (ones(S) - 1) * total % 65536)
     return found
 
@@ -298,8 +315,8 @@ def difference(first, second):
 
 def compare(first, second, room=None):
     """The verdict, by running every starting state, and the work entries."""
-    w, first_gates = parse(first, 0)
-    second_w, second_gates = parse(second, 1)
+    version, w, first_gates = parse(first, 0)
+    second_version, second_w, second_gates = parse(second, 1)
     if w != second_w:
         raise Refused(UNLIKE)
     check_room(room, 2 ** w)
@@ -309,7 +326,7 @@ def compare(first, second, room=None):
 
 def judge(n, table, file, room=None):
     check_table(n, table)
-    w, gates = parse(file)
+    version, w, gates = parse(file)
     if w != n + 1:
         raise Refused(UNLIKE)
     check_room(room, 2 ** w)
@@ -322,12 +339,14 @@ def judge(n, table, file, room=None):
 def gate_line(gate):
     if isinstance(gate, Cnot):
         return f"cx q[{gate.control}],q[{gate.target}];\n"
+    if isinstance(gate, Inverter):
+        return f"x q[{gate.wire}];\n"
     common = gcd(gate.angle, 32768)
     return f"u1({gate.angle // common}*pi/{32768 // common}) q[{gate.wire}];\n"
 
 
 def listing(file, wrapped, room=None):
-    w, gates = parse(file)
+    version, w, gates = parse(file)
     text = f'OPENQASM 2.0;\ninclude "qelib1.inc";\nqreg q[{w}];\n'
     around = f"h q[{w - 1}];\n" if wrapped else ""
     text += around + "".join(gate_line(gate) for gate in gates) + around
@@ -399,13 +418,13 @@ def check():
     built = build(1, byte("02"))
     holds(built, byte("50 48 47 00 01 02 00 06  02 01 40 00  02 00 40 00  02 01 00 00"
                       "01 00 01 00  02 01 C0 00  01 00 01 00"))
-    holds(count(built), (2, 4, 0))
+    holds(count(built), (2, 4, 0, 0))
     larger = build(2, byte("08"))
     holds(read(larger), (3, 14))
     folded, before, after = fold(larger)
     holds(read(folded), (3, 13))
     holds((before, after), (7, 7))
-    holds(parse(folded)[1][0], Phase(2, 8192))
+    holds(parse(folded).gates[0], Phase(2, 8192))
     for n in range(1, 9):
         table = bytes([1] + [0] * (table_length(n) - 1))
         holds(read(build(n, table)), (n + 1, 2 ** (n + 2) - 2))
@@ -437,7 +456,42 @@ def check():
 
     holds(printout(byte("01 02")), EXAMPLE_LISTING)
     holds(printout(b""), b"refused 1\n")
-    print(f"{held} cases of document 01 hold, the scores as 02 §2 has them")
+
+    check_inverters(holds)
+    print(f"{held} cases hold: those of document 01, the scores as 02 §2 has them, and inverters as 02 §12 has them")
+
+
+def check_inverters(holds):
+    """On one wire, against the empty circuit of either version, and what only version 2 admits."""
+    x, a = Inverter(0), 5
+    for version in (1, 2):
+        empty = encode(1, [], version)
+
+        def against_empty(gates):
+            return compare(encode(1, gates, version=2), empty)
+
+        holds(against_empty([x, x]), (SAME, [0, 0]))
+        holds(against_empty([x, Phase(0, a), x]), (Different(0, 0, 0, a), [a, 65536 - a]))
+        holds(against_empty([x]), (Different(0, 1, 0, 0), [0, 0]))
+        holds(against_empty([Phase(0, a), x, Phase(0, a), x]), (Different(0, 0, 0, a), [a, 0]))
+        holds(compare(empty, encode(1, [x], version=2)), (Different(0, 0, 1, 0), [0, 0]))
+
+    flipped_again = encode(1, [Phase(0, 1), x, Phase(0, 2), x, Phase(0, 4)], version=2)
+    holds(count(flipped_again), (0, 3, 3, 2))
+    holds(fold(flipped_again), (encode(1, [Phase(0, 5), x, Phase(0, 2), x], version=2), 3, 2))
+    holds(listing(encode(1, [x], version=2), False)[-8:], b"x q[0];\n")
+    mixed = [x, Cnot(0, 1), Phase(1, 7), Inverter(1), Phase(1, 100), Cnot(1, 2), Phase(2, 3000), Inverter(2),
+             Phase(2, 9)]
+    for start in range(8):
+        inside = sum(c for S, c in enumerate(coefficients(3, mixed)) if S & start == S)
+        holds(run_gates(mixed, start)[1], inside % 65536)
+
+    holds(decode(2, 1, 0, b"\3\0\0\0"), Held(0, x))
+    for version in (0, 1, 3, 258):
+        holds(decode(version, 1, 0, b"\3\0\0\0"), Bad(KIND))
+    holds(refusal(read, encode(1, [x], version=2)), None)
+    holds(refusal(read, encode(1, [Phase(0, 1), x], version=1)), (GATE, 0, 1, KIND))
+    holds(refusal(read, encode(1, [x], version=258)), (VERSION, 0, 0, 0))
 
 
 if __name__ == "__main__":

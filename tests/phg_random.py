@@ -13,7 +13,7 @@ import tempfile
 from collections import namedtuple
 
 import oracle
-from oracle import Cnot, Phase, Refused
+from oracle import Cnot, Inverter, Phase, Refused
 
 PHG = os.path.join(os.path.dirname(os.path.dirname(os.path.abspath(__file__))), "phg")
 
@@ -24,7 +24,7 @@ USAGE = """phg spectrum N TABLE                    the spectrum, one number a li
 phg build N TABLE OUT                   writes the circuit of the table's oracle
 phg read FILE                           wires and gates
 phg run FILE START                      end state and phase
-phg count FILE                          CNOTs, phase gates and score
+phg count FILE                          CNOTs, phase gates, score and inverters
 phg fold FILE OUT                       folds the phase gates and writes the file
 phg compare [--differences] FILE FILE   whether two circuits do the same
 phg judge [--differences] N TABLE FILE  whether a circuit is the table's oracle
@@ -39,7 +39,7 @@ REFUSALS = {
     3: ("PAD", "an unused table bit is 1"),
     4: ("SHORT", "the file is under 8 bytes"),
     5: ("MARK", "the mark is wrong"),
-    6: ("VERSION", "the version is not 1"),
+    6: ("VERSION", "the version is neither 1 nor 2"),
     7: ("WIRES", "the wires are 0 or above 10"),
     8: ("COUNT", "the gate count is above 2048"),
     9: ("LENGTH", "the file's length is not 8 + 4 times the gate count"),
@@ -134,7 +134,8 @@ def command(name, words, files, closed):
         return said("end {} phase {}\n".format(*oracle.run(file, start)))
     if name == "count":
         form(words, 1, 1, "count FILE")
-        return said("cnots {} phases {} score {}\n".format(*oracle.count(file_named(words[0], files))))
+        counted = oracle.count(file_named(words[0], files))
+        return said("cnots {} phases {} score {} inverters {}\n".format(*counted))
     if name == "fold":
         form(words, 2, 2, "fold FILE OUT")
         folded, before, after = oracle.fold(file_named(words[0], files))
@@ -172,10 +173,12 @@ def status(expected):
 
 # Random commands
 
-def random_gates(rng, w, number):
+def random_gates(rng, w, number, version):
     gates = []
     for _ in range(number):
-        if w > 1 and rng.random() < 0.5:
+        if version == 2 and rng.random() < 0.3:
+            gates.append(Inverter(rng.randrange(w)))
+        elif w > 1 and rng.random() < 0.5:
             gates.append(Cnot(*rng.sample(range(w), 2)))
         else:
             angle = rng.choice([0, 1, 8192, 16384, 32768, 49152, 65535, rng.randrange(65536)])
@@ -184,13 +187,15 @@ def random_gates(rng, w, number):
 
 
 def damaged(rng, file):
-    kind = rng.randrange(6)
+    kind = rng.randrange(7)
     if kind == 0:
         return file[:rng.randrange(len(file) + 1)]
     if kind == 1:
         return file + rng.randbytes(rng.choice([1, 4, 100]))
     if kind == 2:
         return file + bytes(rng.choice([8300, 70000]))
+    if kind == 6:
+        return file[:3] + rng.choice([1, 2, 3, 256, 257, 258, 512]).to_bytes(2, "big") + file[5:]
     changed = bytearray(file)
     at = rng.randrange(min(len(file), 8)) if kind == 3 else rng.randrange(len(file))
     changed[at] = rng.choice([0, 1, 2, 3, 9, 10, 11, 255, rng.randrange(256)])
@@ -202,7 +207,8 @@ def random_file(rng, w=None):
     number = rng.choice([0, 1, 2, 3, 5, 8, 13, 30])
     if w < 3 and rng.random() < 0.03:
         number = rng.choice([2047, 2048, 2049])
-    file = oracle.encode(w, random_gates(rng, w, number))
+    version = rng.choice([1, 2])
+    file = oracle.encode(w, random_gates(rng, w, number, version), version)
     return damaged(rng, file) if rng.random() < 0.3 else file
 
 
@@ -225,10 +231,14 @@ def oracle_file(rng, n, table):
         return random_file(rng)
     if rng.random() < 0.5:
         file = oracle.fold(file)[0]
-    if rng.random() < 0.3:
-        w, gates = oracle.parse(file)
-        gates[rng.randrange(len(gates))] = rng.choice(random_gates(rng, w, 1))
-        file = oracle.encode(w, gates)
+    if rng.random() < 0.5:
+        version, (w, gates) = rng.choice([1, 2]), oracle.parse(file)[1:]
+        if version == 2:
+            place = rng.randrange(len(gates) + 1)
+            gates[place:place] = [Inverter(rng.randrange(w))] * 2
+        if rng.random() < 0.6:
+            gates[rng.randrange(len(gates))] = rng.choice(random_gates(rng, w, 1, version))
+        file = oracle.encode(w, gates, version)
     return damaged(rng, file) if rng.random() < 0.1 else file
 
 
@@ -326,6 +336,7 @@ class Call:
         try:
             if rng.random() < 0.4:
                 second = oracle.fold(first)[0]
+                second = rng.choice([second, second[:4] + b"\2" + second[5:]])
         except Refused:
             pass
         self.words = ["compare"] + self.option("--differences")
@@ -398,6 +409,9 @@ def samples():
     good = oracle.encode(2, gates)
     bad_gate = oracle.encode(2, gates[:3] + [Cnot(1, 1)])
     header, no_kind, spare = bad_gate[:7], b"\3\2\2\5", b"\1\0\1\5"
+    x = Inverter(0)
+    inverters = [x, Phase(0, 8192), Cnot(0, 1), Phase(1, 7), Inverter(1), Phase(1, 9), x, x, Phase(0, 8192),
+                 Inverter(1)]
     return {
         "two_wires": oracle.encode(2, []),
         "mixing": oracle.encode(2, [Cnot(0, 1)]),
@@ -405,7 +419,7 @@ def samples():
         "three_wires": oracle.encode(3, [Phase(2, 40000)]),
         "short": good[:7],
         "mark": b"PHX" + good[3:],
-        "version": good[:4] + b"\2" + good[5:],
+        "version": good[:4] + b"\3" + good[5:],
         "wires": good[:5] + b"\13" + good[6:],
         "count": good[:6] + b"\10\1" + good[8:],
         "length": good + b"\0",
@@ -413,6 +427,11 @@ def samples():
         "kind": header + b"\1" + no_kind,
         "wire": header + b"\2" + b"\1\2\2\5" + no_kind,
         "spare": header + b"\1" + spare,
+        "inverters": oracle.encode(2, inverters, version=2),
+        "inverters_in_1": oracle.encode(2, inverters, version=1),
+        "inverter_spare": oracle.encode(2, inverters, version=2)[:-1] + b"\5",
+        "inverter_pair": oracle.encode(2, [x, x], version=2),
+        "every_start": oracle.encode(2, [Phase(0, 5), x, Phase(0, 5), x], version=2),
         "turns": oracle.encode(2, [Phase(0, 16384), Phase(1, 8192), Cnot(0, 1), Phase(1, 32768), Cnot(0, 1),
                                    Phase(1, 8192)]),
         "majority": bytes.fromhex("e8"),
@@ -442,6 +461,19 @@ read parities
 count turns
 fold turns turned
 count turned
+read inverters
+count inverters
+run inverters 0
+run inverters 3
+list inverters
+fold inverters inverters_folded
+count inverters_folded
+compare inverters inverters_folded
+compare inverter_pair two_wires
+compare --differences every_start two_wires
+compare --differences two_wires inverters
+judge 1 00 inverter_pair
+judge --differences 1 00 every_start
 spectrum 9 08
 spectrum 300 08
 build 4 08 never
@@ -450,6 +482,9 @@ read short
 read -
 read mark
 fold version never
+read inverters_in_1
+compare inverters inverters_in_1
+count inverter_spare
 read wires
 count count
 list length never

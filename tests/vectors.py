@@ -8,7 +8,7 @@ import random
 from collections import namedtuple
 
 import oracle
-from oracle import Cnot, Phase, encode
+from oracle import Cnot, Inverter, Phase, encode
 
 Request = namedtuple("Request", "op a b room first second note")
 
@@ -31,8 +31,8 @@ def value(note, table, x):
     return Request("value", 0, x, 0, table, b"", note)
 
 
-def decode(note, w, position, four):
-    return Request("decode", w, position, 0, bytes(four), b"", note)
+def decode(note, version, w, position, four):
+    return Request("decode", w, position, 0, version.to_bytes(2, "big") + bytes(four), b"", note)
 
 
 def gate_at(note, file, position):
@@ -125,6 +125,8 @@ def gate_values(decoded):
     if isinstance(decoded, oracle.Bad):
         return [0, decoded.reason]
     gate, position = decoded.gate, decoded.position
+    if isinstance(gate, Inverter):
+        return [3, gate.wire, 0, position]
     return [1, *gate, position] if isinstance(gate, Cnot) else [2, *gate, position]
 
 
@@ -144,7 +146,7 @@ def answer(request):
     if op == "value":
         return [oracle.value(first, b)], []
     if op == "decode":
-        return gate_values(oracle.decode(a, b, first)), []
+        return gate_values(oracle.decode(int.from_bytes(first[:2], "big"), a, b, first[2:])), []
     if op == "gate_at":
         return gate_values(oracle.gate_at(first, b)), []
     if op == "read":
@@ -313,9 +315,14 @@ def random_cnot(rng, w):
     return Cnot(*rng.sample(range(w), 2))
 
 
-def random_gates(rng, w, number):
-    return [random_cnot(rng, w) if w > 1 and rng.randrange(2) else Phase(rng.randrange(w), random_angle(rng))
-            for _ in range(number)]
+def random_gate(rng, w, version):
+    if version == 2 and rng.randrange(3) == 0:
+        return Inverter(rng.randrange(w))
+    return random_cnot(rng, w) if w > 1 and rng.randrange(2) else Phase(rng.randrange(w), random_angle(rng))
+
+
+def random_gates(rng, w, number, version=1):
+    return [random_gate(rng, w, version) for _ in range(number)]
 
 
 def random_file(rng, w, number):
@@ -385,8 +392,8 @@ def refused_files():
     cases.append(("ten wires, wire 10", raw(10, ["02090001", "020a0001"])))
     cases.append(("ten wires, target 10", raw(10, ["01090000", "01000a00"])))
     cases.append(("short before mark", b"QQQ\0\0\0\0"))
-    cases.append(("all wrong", raw(0, ["00000000"], mark=b"QHG", version=2, number=2049)))
-    cases.append(("all but mark wrong", raw(0, ["00000000"], version=2, number=2049)))
+    cases.append(("all wrong", raw(0, ["00000000"], mark=b"QHG", version=3, number=2049)))
+    cases.append(("all but mark wrong", raw(0, ["00000000"], version=3, number=2049)))
     cases.append(("wires, count, length, gate wrong", raw(0, ["00000000"], number=2049)))
     cases.append(("count, length, gate wrong", raw(2, ["00000000"], number=2049)))
     cases.append(("length, gate wrong", raw(2, ["00000000"], number=2048)))
@@ -401,7 +408,7 @@ def refusal_samples():
     """One file for each refusal 4 to 10."""
     return [
         ("short", raw(2, [])[:7]), ("empty file", b""), ("mark", raw(2, [], mark=b"PHQ")),
-        ("version", raw(2, [], version=2)), ("no wires", raw(0, [])), ("eleven wires", raw(11, [])),
+        ("version", raw(2, [], version=3)), ("no wires", raw(0, [])), ("eleven wires", raw(11, [])),
         ("count", raw(2, [], number=2049)), ("one byte short", raw(2, ["02004000"])[:-1]),
         ("one byte long", raw(2, ["02004000"]) + b"\0"), ("gate", raw(2, ["02004000", "01000100", "01010100"])),
         ("second gate bad of two bad", raw(2, ["02004000", "01000102", "00000000"])),
@@ -429,17 +436,17 @@ def circuit_section(rng):
         for second in range(3):
             for third in range(3):
                 for fourth in range(2):
-                    yield decode("small values", 2, 7, [kind, second, third, fourth])
+                    yield decode("small values", 1, 2, 7, [kind, second, third, fourth])
     for note, quad in BAD_AT_TWO_WIRES + GOOD_AT_TWO_WIRES:
-        yield decode(note, 2, rng.choice([0, 1, 255, 256, 2047, 2048, 65535]), bytes.fromhex(quad))
+        yield decode(note, 1, 2, rng.choice([0, 1, 255, 256, 2047, 2048, 65535]), bytes.fromhex(quad))
     for w in (0, 1, 2, 3, 10, 11, 255):
         below, beside = max(w - 1, 0), max(w - 2, 0)
         for four in ([1, below, beside, 0], [1, beside, below, 0], [1, w, 0, 0], [1, 0, w, 0], [1, below, below, 0],
                      [1, below, beside, 1], [2, below, 18, 52], [2, w, 18, 52], [2, 0, 0, 0], [2, 255, 255, 255],
                      [0, 0, 0, 0], [1, 0, 0, 0], [1, 0, 255, 0], [1, 255, 0, 0], [3, 0, 1, 0], [255, 0, 1, 0]):
-            yield decode(f"at {w} wires", w, rng.choice([0, 2047, 65535]), four)
+            yield decode(f"at {w} wires", 1, w, rng.choice([0, 2047, 65535]), four)
     for _ in range(40):
-        yield decode("random bytes", rng.choice([2, 5, 10, 255]), rng.randrange(65536),
+        yield decode("random bytes", 1, rng.choice([2, 5, 10, 255]), rng.randrange(65536),
                      [rng.choice([1, 2, 2, 1, rng.randrange(256)]), rng.randrange(12), rng.randrange(12),
                       rng.choice([0, 0, rng.randrange(256)])])
 
@@ -539,8 +546,8 @@ GOOD_PHASES = [
 ]
 
 
-def reason_requests(note, file):
-    """A file with a bad gate in every operation, at each side."""
+def everywhere(note, file):
+    """A file, good or bad, on two wires in every operation, at each side."""
     good = raw(2, [])
     yield read(note, file)
     yield read(f"{note}, side 1", file, 1)
@@ -554,23 +561,28 @@ def reason_requests(note, file):
         yield listing(note, file, wrapped, 60)
 
 
+def reason_requests(rng, version, reason, note, quad):
+    """A bad gate alone in every operation, with the decoder's reason as written down."""
+    four = bytes.fromhex(quad)
+    assert oracle.decode(version, 2, 0, four) == oracle.Bad(REASONS[reason]), (version, note, quad)
+    yield decode(f"{reason}: {note}", version, 2, rng.choice([0, 1, 2047, 65535]), four)
+    yield from everywhere(f"{reason}: {note}", raw(2, [quad], version=version))
+    yield gate_at(f"{reason}: {note}", raw(2, ["02004000", quad], version=version), 1)
+
+
 def reasons_section(rng):
     for reason, note, quad in ONE_FAULT + MORE_FAULTS:
-        four = bytes.fromhex(quad)
-        assert oracle.decode(2, 0, four) == oracle.Bad(REASONS[reason]), (note, quad)
-        yield decode(f"{reason}: {note}", 2, rng.choice([0, 1, 2047, 65535]), four)
-        yield from reason_requests(f"{reason}: {note}", raw(2, [quad]))
-        yield gate_at(f"{reason}: {note}", raw(2, ["02004000", quad]), 1)
+        yield from reason_requests(rng, 1, reason, note, quad)
     for note, quad in GOOD_PHASES:
-        assert isinstance(oracle.decode(2, 0, bytes.fromhex(quad)), oracle.Held), (note, quad)
-        yield decode(f"a good phase: {note}", 2, 5, bytes.fromhex(quad))
+        assert isinstance(oracle.decode(1, 2, 0, bytes.fromhex(quad)), oracle.Held), (note, quad)
+        yield decode(f"a good phase: {note}", 1, 2, 5, bytes.fromhex(quad))
         yield read(f"a good phase: {note}", raw(2, [quad]))
     one_each = [next(fault for fault in ONE_FAULT if fault[0] == reason) for reason in REASONS]
     before = ["02004000", "01000100", "0201ffff"]
     for reason, note, quad in one_each:
         others = [other for name, _, other in one_each if name != reason]
         for behind in [[other] for other in others] + [others, before + others]:
-            yield from reason_requests(f"{reason} before {len(behind)} others", raw(2, before + [quad] + behind))
+            yield from everywhere(f"{reason} before {len(behind)} others", raw(2, before + [quad] + behind))
         yield read(f"{reason} in front of 2,047 others", raw(2, [quad] + others[:1] * 2047))
         yield read(f"{reason} behind 2,047 good ones", raw(2, before[:1] * 2047 + [quad]))
         for name, _, other in one_each:
@@ -612,8 +624,8 @@ def build_section(rng):
 
 # Section fold
 
-def fold_rooms(note, w, gates, more=(0, 1, 13), fewer=(1,)):
-    file = encode(w, gates)
+def fold_rooms(note, w, gates, more=(0, 1, 13), fewer=(1,), version=1):
+    file = encode(w, gates, version)
     length = len(oracle.fold(file)[0])
     for extra in more:
         yield fold(f"{note}, room {extra} more", file, length + extra)
@@ -722,8 +734,8 @@ def one_group(angles):
     return gates
 
 
-def count_and_fold(note, w, gates):
-    file = encode(w, gates)
+def count_and_fold(note, w, gates, version=1):
+    file = encode(w, gates, version)
     yield count(note, file)
     yield fold(note, file, len(file))
 
@@ -829,8 +841,8 @@ def with_angle_moved(gates, position, step):
     return moved
 
 
-def verdict_rooms(note, w, first, second, rooms=(0, 1, 19, -1)):
-    first, second = encode(w, first), encode(w, second)
+def verdict_rooms(note, w, first, second, rooms=(0, 1, 19, -1), versions=(1, 1)):
+    first, second = encode(w, first, versions[0]), encode(w, second, versions[1])
     for extra in rooms:
         yield compare(f"{note}, room 2^w {extra:+}", first, second, 2 ** w + extra)
 
@@ -983,8 +995,8 @@ def judge_requests(rng, good):
 
 # Section listing
 
-def listing_rooms(note, w, gates, rooms=(0, 1, 23, -1)):
-    file = encode(w, gates)
+def listing_rooms(note, w, gates, rooms=(0, 1, 23, -1), version=1):
+    file = encode(w, gates, version)
     for wrapped in (False, True):
         length = len(oracle.listing(file, wrapped))
         for extra in rooms:
@@ -1109,6 +1121,270 @@ def printout_section(rng):
             yield refused_line(f"room {room}", number, room)
 
 
+# Section inverters
+
+X = Inverter(0)
+
+
+def turn(wire, angle):
+    """Every start turned by the angle, and ended as it starts."""
+    return [Phase(wire, angle), Inverter(wire)] * 2
+
+
+def state_0_only(w, unit):
+    """Phase unit * 2^(w-1) at state 0, and 0 at all others."""
+    flips = [Inverter(wire) for wire in range(w)]
+    return flips + last_state_only(w, unit) + flips
+
+
+def inverted(rng, w, gates):
+    """Other gates that do the same: inverters in pairs and around gates, and the turns that these make turned back."""
+    out, owed = [], 0
+    for gate in gates:
+        choice = rng.randrange(4)
+        if choice == 0:
+            out += [Inverter(rng.randrange(w))] * 2
+        if choice == 1 and isinstance(gate, Cnot):
+            out += [Inverter(gate.control), gate, Inverter(gate.control), Inverter(gate.target)]
+        elif choice == 1 and isinstance(gate, Phase):
+            out += [Inverter(gate.wire), Phase(gate.wire, -gate.angle % 65536), Inverter(gate.wire)]
+            owed += gate.angle
+        else:
+            out.append(gate)
+    return inserted(rng, out, turn(rng.randrange(w), owed % 65536))
+
+
+# The ends and the phases from each start, and the entries against the empty circuit, written down by hand
+ONE_WIRE = [
+    ("one inverter", [X], [1, 0], [0, 0], [0, 0]),
+    ("two", [X, X], [0, 1], [0, 0], [0, 0]),
+    ("three", [X, X, X], [1, 0], [0, 0], [0, 0]),
+    ("one before a phase", [X, Phase(0, 5)], [1, 0], [5, 0], [5, 65531]),
+    ("one behind a phase", [Phase(0, 5), X], [1, 0], [0, 5], [0, 5]),
+    ("two around a phase", [X, Phase(0, 5), X], [0, 1], [5, 0], [5, 65531]),
+    ("two around a half turn", [X, Phase(0, 32768), X], [0, 1], [32768, 0], [32768, 32768]),
+    ("two around the greatest angle", [X, Phase(0, 65535), X], [0, 1], [65535, 0], [65535, 1]),
+    ("two around a zero angle", [X, Phase(0, 0), X], [0, 1], [0, 0], [0, 0]),
+    ("every start turned", [Phase(0, 5), X, Phase(0, 5), X], [0, 1], [5, 5], [5, 0]),
+    ("every start turned by a half", turn(0, 32768), [0, 1], [32768, 32768], [32768, 0]),
+    ("every start turned and turned back", turn(0, 5) + turn(0, 65531), [0, 1], [0, 0], [0, 0]),
+    ("constants that wrap", turn(0, 40000) + turn(0, 40000), [0, 1], [14464, 14464], [14464, 0]),
+    ("opposites on the two flips", [Phase(0, 5), X, Phase(0, 65531), X], [0, 1], [65531, 5], [65531, 10]),
+]
+TWO_WIRES = [
+    ("a flip handed on", [X, Cnot(0, 1), Phase(1, 5)], [3, 0, 1, 2], [5, 0, 0, 5], [5, 65531, 65531, 10]),
+    ("a flip that the target had", [Inverter(1), Cnot(0, 1), Phase(1, 5)], [2, 1, 0, 3], [5, 0, 0, 5],
+     [5, 65531, 65531, 10]),
+    ("two flips that meet", [X, Inverter(1), Cnot(0, 1), Phase(1, 5)], [1, 2, 3, 0], [0, 5, 5, 0], [0, 5, 5, 65526]),
+    ("a flip of the control", [X, Cnot(0, 1), Phase(0, 5)], [3, 0, 1, 2], [5, 0, 5, 0], [5, 65531, 0, 0]),
+    ("a flip too late to be handed on", [Cnot(0, 1), X, Phase(1, 5)], [1, 2, 3, 0], [0, 5, 5, 0], [0, 5, 5, 65526]),
+    ("two flips", [X, Inverter(1), Phase(0, 5), Phase(1, 7)], [3, 2, 1, 0], [12, 7, 5, 0], [12, 65531, 65529, 0]),
+]
+
+# The gates and what folding makes of them, by hand
+FLIPPED_FOLDS = [
+    ("same mask, other flip", 1, [Phase(0, 5), X, Phase(0, 7)], [Phase(0, 5), X, Phase(0, 7)]),
+    ("same mask, same flip", 1, [Phase(0, 5), X, X, Phase(0, 7)], [Phase(0, 12), X, X]),
+    ("same mask, same flip 1", 1, [X, Phase(0, 5), X, X, Phase(0, 7)], [X, Phase(0, 12), X, X]),
+    ("both flips twice", 1, [Phase(0, 1), X, Phase(0, 10), X, Phase(0, 2), X, Phase(0, 20)],
+     [Phase(0, 3), X, Phase(0, 30), X, X]),
+    ("opposites, other flip", 1, [Phase(0, 5), X, Phase(0, 65531)], [Phase(0, 5), X, Phase(0, 65531)]),
+    ("opposites, same flip 1", 1, [X, Phase(0, 5), Phase(0, 65531), X], [X, X]),
+    ("zero angle, flip 1", 1, [X, Phase(0, 0)], [X]),
+    ("inverters alone", 2, [X, Inverter(1), X, X, Inverter(1)], [X, Inverter(1), X, X, Inverter(1)]),
+    ("no inverters", 2, [Phase(0, 1), Phase(1, 2), Phase(0, 4)], [Phase(0, 5), Phase(1, 2)]),
+    ("a flip on another wire", 2, [Phase(0, 1), Inverter(1), Phase(0, 4)], [Phase(0, 5), Inverter(1)]),
+    ("same mask and flip, other wire", 2, [X, Phase(0, 5)] + SWAP + [Phase(1, 7)], [X, Phase(0, 12)] + SWAP),
+    ("same mask, other flip, other wire", 2, [Phase(0, 5)] + SWAP + [Inverter(1), Phase(1, 7)],
+     [Phase(0, 5)] + SWAP + [Inverter(1), Phase(1, 7)]),
+    ("a flip handed on", 2, [Cnot(0, 1), Phase(1, 5), Cnot(0, 1), X, Cnot(0, 1), Phase(1, 7)],
+     [Cnot(0, 1), Phase(1, 5), Cnot(0, 1), X, Cnot(0, 1), Phase(1, 7)]),
+    ("a flip handed on and taken back", 2,
+     [Cnot(0, 1), Phase(1, 5), Cnot(0, 1), X, Cnot(0, 1), Inverter(1), Phase(1, 7)],
+     [Cnot(0, 1), Phase(1, 12), Cnot(0, 1), X, Cnot(0, 1), Inverter(1)]),
+    ("a flip handed on, against the target's own", 2,
+     [X, Cnot(0, 1), Phase(1, 5), Cnot(0, 1), X, Inverter(1), Cnot(0, 1), Phase(1, 7)],
+     [X, Cnot(0, 1), Phase(1, 12), Cnot(0, 1), X, Inverter(1), Cnot(0, 1)]),
+]
+
+# Bad in version 2 at two wires, with the reasons by hand
+BAD_INVERTERS = [
+    (SPARE, "third byte 1", "03000100"), (SPARE, "third byte 255", "0301ff00"), (SPARE, "fourth byte 1", "03000001"),
+    (SPARE, "fourth byte 128", "03010080"), (SPARE, "both bytes", "03010101"), (WIRE, "wire w", "03020000"),
+    (WIRE, "wire 255", "03ff0000"), (WIRE, "wire and third byte", "03020200"), (WIRE, "wire and both", "03ff0505"),
+]
+OTHER_KINDS = [(KIND, "kind 0", "00000000"), (KIND, "kind 4", "04000000"), (KIND, "kind 131", "83010000")]
+KIND_3 = [(KIND, "kind 3", "03000000"), (KIND, "kind 3, wire", "03020000"), (KIND, "kind 3, spare", "03010101")]
+
+VERSIONS = 0, 1, 2, 3, 258, 512, 65535
+
+
+def hand_requests():
+    for w, cases in ((1, ONE_WIRE), (2, TWO_WIRES)):
+        for note, gates, ends, phases, entries in cases:
+            file = encode(w, gates, version=2)
+            assert [oracle.run(file, start) for start in range(2 ** w)] == list(zip(ends, phases)), note
+            assert oracle.compare(file, raw(w, []))[1] == entries, note
+            for start in range(2 ** w):
+                yield run(note, file, start)
+            yield from count_and_fold(note, w, gates, version=2)
+            yield from verdict_rooms(f"{note} against nothing", w, gates, [], rooms=(0, -1), versions=(2, 1))
+            yield from verdict_rooms(f"nothing against {note}", w, [], gates, rooms=(5,), versions=(2, 2))
+            yield listing(note, file, w == 2, 200)
+    for note, w, gates, folded in FLIPPED_FOLDS:
+        assert oracle.fold(encode(w, gates, version=2))[0] == encode(w, folded, version=2), note
+        yield from fold_rooms(note, w, gates, more=(0, 9), version=2)
+        yield from verdict_rooms(f"{note}: folded", w, gates, folded, rooms=(0,), versions=(2, 2))
+
+
+def circuit_requests(rng, note, w, number, version):
+    gates = random_gates(rng, w, number, version)
+    file = encode(w, gates, version)
+    yield read(note, file)
+    for start in (0, rng.randrange(2 ** w), 2 ** w - 1, 2 ** w):
+        yield run(note, file, start)
+    yield count(note, file)
+    yield gate_at(note, file, rng.randrange(number))
+    yield from fold_rooms(note, w, gates, more=(0,), version=version)
+    yield from listing_rooms(note, w, gates, rooms=(0,) if version == 1 else (0, -1), version=version)
+
+
+def inverter_pairs(rng, w):
+    """(note, versions, first, second)"""
+    plain = random_gates(rng, w, 9)
+    gates = random_gates(rng, w, 12, version=2) + [Phase(rng.randrange(w), random_angle(rng))]
+    wire, other, angle = rng.randrange(w), rng.randrange(w), rng.randrange(1, 65536)
+    yield "itself", (2, 2), gates, gates
+    yield "no inverters", (1, 2), plain, plain
+    yield "inverted", (1, 2), plain, inverted(rng, w, plain)
+    yield "inverted first", (2, 1), inverted(rng, w, plain), disguised(rng, w, plain)
+    yield "both inverted", (2, 2), inverted(rng, w, gates), disguised(rng, w, inverted(rng, w, gates))
+    yield "folded", (2, 2), gates, oracle.fold_gates(w, gates)
+    yield "both turned by one angle", (2, 2), inserted(rng, gates, turn(wire, angle)), \
+        inserted(rng, gates, turn(other, angle))
+    yield "every start turned by 1", (1, 2), plain, inserted(rng, plain, turn(wire, 1))
+    yield "every start turned by a half", (2, 1), inserted(rng, inverted(rng, w, plain), turn(wire, 32768)), plain
+    yield "every start turned, inverted", (2, 2), inverted(rng, w, gates), inserted(rng, gates, turn(wire, angle))
+    yield "one inverter behind", (1, 2), plain, plain + [Inverter(wire)]
+    yield "one inverter before", (2, 2), [Inverter(wire)] + gates, gates
+    yield "one inverter between", (2, 2), gates, inserted(rng, inverted(rng, w, gates), [Inverter(wire)])
+    yield "an inverter and every start turned", (2, 2), gates + [Inverter(wire)], inserted(rng, gates, turn(other, 3))
+    yield "last angle up by 1", (2, 2), inverted(rng, w, gates), with_angle_moved(gates, len(gates) - 1, 1)
+    yield "other random gates", (2, 1), gates, random_gates(rng, w, 9)
+    if w < 7:
+        yield "state 0 only, half turn", (1, 2), plain, state_0_only(w, 2 ** (16 - w)) + plain
+    if w < 6:
+        yield "state 0 only, small", (2, 2), state_0_only(w, 3) + gates, inverted(rng, w, gates)
+        yield "last state only, small", (2, 2), last_state_only(w, 3) + gates, inverted(rng, w, gates)
+    if w > 1:
+        yield "hidden half turns", (2, 2), gates, \
+            inverted(rng, w, inserted(rng, gates, hidden_nothing(rng.sample(range(w), 2))))
+
+
+def inverted_oracles(rng, n):
+    """A table of n variables, and (note, gates) for it."""
+    w, table = n + 1, odd_table(rng, n)
+    gates = oracle.construction(n, table)
+    other = inverted(rng, w, gates[:200]) + gates[200:]
+    return table, [
+        ("built, as version 2", gates), ("inverted", other), ("inverted and folded", oracle.fold_gates(w, other)),
+        ("every start turned by 1", inserted(rng, gates, turn(n, 1))),
+        ("inverted, every start turned by a half", other + turn(0, 32768)),
+        ("an inverter behind", gates + [Inverter(n)]), ("an inverter before", [X] + other),
+        ("the target inverted around", [Inverter(n)] + gates + [Inverter(n)]),
+    ]
+
+
+def inverter_verdicts(rng):
+    for w in range(1, 11):
+        for i, (note, versions, first, second) in enumerate(inverter_pairs(rng, w)):
+            rooms = (0, -1) if i % 8 == 0 else (rng.randrange(20),)
+            yield from verdict_rooms(f"{w} wires, {note}", w, first, second, rooms=rooms, versions=versions)
+    for w in (1, 2, 5, 10):
+        for wire in range(w):
+            yield from verdict_rooms(f"inverter {wire} of {w}", w, [Inverter(wire)], [], rooms=(0,), versions=(2, 1))
+        every = [Inverter(wire) for wire in range(w)]
+        yield from verdict_rooms(f"an inverter on each of {w}", w, every, every[:-1], rooms=(0,), versions=(2, 2))
+    for n in range(1, 9):
+        table, candidates = inverted_oracles(rng, n)
+        for note, gates in candidates:
+            yield judge(f"{note}, n {n}", n, table, encode(n + 1, gates, version=2), 2 ** (n + 1))
+        yield judge(f"no room, n {n}", n, table, encode(n + 1, [Inverter(n)], version=2), 2 ** (n + 1) - 1)
+
+
+def version_requests():
+    for version in VERSIONS:
+        cnot, inverter = (raw(2, ["02004000", quad], version=version) for quad in ("01000100", "03010000"))
+        yield read(f"version {version}, a CNOT", cnot)
+        yield fold(f"version {version}, a CNOT", cnot, 16)
+        yield from everywhere(f"version {version}, an inverter", inverter)
+        for note, file in (("a CNOT", cnot), ("an inverter", inverter)):
+            yield gate_at(f"version {version}, {note}", file, 1)
+        for quad in ("03010000", "03010001", "03000100", "03020000", "01000100", "0201ffff", "00010000", "04010000"):
+            yield decode(f"version {version}", version, 2, 7, bytes.fromhex(quad))
+    for versions in ((1, 1), (1, 2), (2, 1), (2, 2), (2, 3), (3, 2), (3, 1)):
+        yield from verdict_rooms("versions {} and {}".format(*versions), 2, [X], [X], rooms=(0,), versions=versions)
+    for note, w, number in (("wires, count", 0, 2049), ("count", 2, 2049), ("length", 2, 2), ("gate", 2, 1)):
+        yield read(f"version 2, {note} first of what is wrong", raw(w, ["03020100"], version=2, number=number))
+
+
+def bad_inverter_requests(rng):
+    for reason, note, quad in BAD_INVERTERS + OTHER_KINDS:
+        yield from reason_requests(rng, 2, reason, f"version 2, {note}", quad)
+    for reason, note, quad in KIND_3:
+        yield from reason_requests(rng, 1, reason, note, quad)
+    for reason, note, quad in BAD_INVERTERS:
+        yield decode(f"version 1, {note}", 1, 2, 0, bytes.fromhex(quad))
+    for reason, note, quad in ONE_FAULT + MORE_FAULTS:
+        if not quad.startswith("03"):
+            assert oracle.decode(2, 2, 0, bytes.fromhex(quad)) == oracle.Bad(REASONS[reason]), (note, quad)
+            yield decode(f"version 2, {reason}: {note}", 2, 2, 0, bytes.fromhex(quad))
+            yield read(f"version 2, {reason}: {note}", raw(2, ["03010000", quad], version=2))
+    for note, quad in GOOD_AT_TWO_WIRES + GOOD_PHASES:
+        yield decode(f"version 2, {note}", 2, 2, 3, bytes.fromhex(quad))
+    for w in (0, 1, 2, 10, 11, 255):
+        for wire in (0, max(w - 1, 0), w):
+            yield decode(f"version 2, {w} wires", 2, w, rng.choice([0, 2047, 65535]), [3, wire, 0, 0])
+
+
+def full_of_inverters(rng):
+    full, odd = encode(1, [X] * 2048, version=2), encode(1, [X] * 2047, version=2)
+    assert oracle.run(full, 0) == (0, 0) and oracle.run(odd, 0) == (1, 0)
+    yield read("2,048 inverters", full)
+    yield read("2,049 inverters", encode(1, [X] * 2049, version=2))
+    yield read("2,048 inverters in version 1", encode(1, [X] * 2048, version=1))
+    yield read("2,048 inverters, the last with a spare byte", full[:-1] + b"\1")
+    yield run("2,048 inverters", full, 0)
+    yield run("2,047 inverters", odd, 0)
+    yield count("2,048 inverters", full)
+    yield fold("2,048 inverters", full, len(full))
+    yield fold("2,048 inverters, one short", full, len(full) - 1)
+    yield compare("2,048 inverters against nothing", full, raw(1, []), 2)
+    yield compare("nothing against 2,047 inverters", raw(1, []), odd, 2)
+    yield listing("2,048 inverters", full, True, len(oracle.listing(full, True)))
+    wide = encode(10, [Inverter(i % 10) for i in range(2048)], version=2)
+    assert oracle.run(wide, 0) == (255, 0)
+    yield run("2,048 inverters, ten wires", wide, 0)
+    yield compare("2,048 inverters, ten wires, against nothing", wide, raw(10, []), 1024)
+    gates = random_gates(rng, 10, 2047, version=2) + [Phase(9, 5)]
+    file = encode(10, gates, version=2)
+    yield run("2,048 gates, ten wires", file, 1023)
+    yield from fold_rooms("2,048 gates, ten wires", 10, gates, more=(0,), version=2)
+    yield compare("2,048 gates, ten wires, last angle up by 1", file,
+                  encode(10, with_angle_moved(gates, 2047, 1), version=2), 1024)
+
+
+def inverters_section(rng):
+    yield from hand_requests()
+    for w in range(1, 11):
+        yield from circuit_requests(rng, f"version 1, {w} wires", w, 2 + 2 * w, version=1)
+        yield from circuit_requests(rng, f"version 2, {w} wires", w, 4 + 4 * w, version=2)
+    yield from inverter_verdicts(rng)
+    yield from version_requests()
+    yield from bad_inverter_requests(rng)
+    yield from full_of_inverters(rng)
+
+
 # Section paper
 
 def paper_section(rng):
@@ -1187,7 +1463,7 @@ def limit_requests():
         for room in (2 ** w - 1, 2 ** w):
             yield compare(f"work of {room} on {w} wires", raw(w, []), raw(w, []), room)
     nine = oracle.build(8, bytes(32))
-    whole = oracle.parse(nine)[1] + [Phase(8, 0)] * 1026
+    whole = oracle.parse(nine).gates + [Phase(8, 0)] * 1026
     yield judge("2,048 gates", 8, bytes(32), encode(9, whole), 512)
     yield judge("2,049 gates", 8, bytes(32), encode(9, whole + [Phase(8, 0)]), 512)
     for n, w in ((1, 1), (1, 2), (1, 3), (8, 8), (8, 9), (8, 10)):
@@ -1199,6 +1475,7 @@ SECTIONS = {
     "build": (103, build_section), "fold": (104, fold_section), "verdict": (105, verdict_section),
     "listing": (106, listing_section), "table": (107, table_section), "oracle": (108, oracle_section),
     "printout": (109, printout_section), "reasons": (110, reasons_section), "scores": (111, scores_section),
+    "inverters": (112, inverters_section),
 }
 
 

@@ -49,18 +49,22 @@ fn lend_nothing(op: u8, a: u8, b: u16, first: &[u8]) {
             Checked::Refused(refusal) => refused(refusal),
         },
         request::VALUE => answers(table::value(first, b as usize) as usize),
-        request::DECODE => {
-            if first.len() == 4 {
-                let position = b as usize;
-                gate(circuit::decode(a, position, first[0], first[1], first[2], first[3]));
-            }
-        }
+        request::DECODE => decode(a, b as usize, first),
         request::GATE_AT => gate(circuit::gate_at(first, b as usize)),
         _ => read(op, a, b, first),
     }
 }
 
-// 1, control, target and position of a CNOT; 2, wire, angle and position of a phase; 0 and the reason for bad.
+// The version in two bytes, then the gate's four.
+fn decode(w: u8, position: usize, first: &[u8]) {
+    if first.len() == 6 {
+        let version = request::number(first[0], first[1]);
+        gate(circuit::decode(version, w, position, first[2], first[3], first[4], first[5]));
+    }
+}
+
+// 1, control, target and position of a CNOT; 2, wire, angle and position of a phase; 3, wire, 0 and position of an
+// inverter; 0 and the reason for bad.
 fn gate(answer: Decoded) {
     match answer {
         Decoded::Good(placed) => {
@@ -75,6 +79,11 @@ fn gate(answer: Decoded) {
                     answers(2);
                     number(wire as usize);
                     number(angle as usize)
+                }
+                Gate::Inverter { wire } => {
+                    answers(3);
+                    number(wire as usize);
+                    number(0)
                 }
             }
             number(placed.position)
@@ -94,7 +103,7 @@ fn reading(side: u8, file: &[u8]) -> Reading {
     circuit::read_side(file, side)
 }
 
-// Wires and gates; end state and phase; CNOTs, phase gates and score.
+// Wires and gates; end state and phase; CNOTs, phase gates, score and inverters.
 fn read(op: u8, side: u8, start: u16, file: &[u8]) {
     match op {
         request::READ => match reading(side, file) {
@@ -116,10 +125,12 @@ fn read(op: u8, side: u8, start: u16, file: &[u8]) {
                 cnots,
                 phases,
                 score,
+                inverters,
             } => {
                 answers(cnots);
                 number(phases);
-                number(score)
+                number(score);
+                number(inverters)
             }
             Counted::Refused(refusal) => refused(refusal),
         },

@@ -62,7 +62,7 @@ pub(crate) fn of(header: Header) -> Request {
     }
 }
 
-fn number(high: u8, low: u8) -> u16 {
+pub(crate) fn number(high: u8, low: u8) -> u16 {
     (high as u16) * 256 + (low as u16)
 }
 

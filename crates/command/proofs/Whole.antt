@@ -19,7 +19,7 @@ use Rattle.build.specs.declared.Built.{Built}
 use Rattle.build.specs.Construction.{builtSays, builtFile, Builds}
 use Rattle.running.specs.declared.Ran.{Ran}
 use Rattle.running.specs.declared.Counted.{Counted}
-use Rattle.running.specs.Run.{ranSays, countedSays, endFrom, phaseFrom, cnots, phases, score, Runs, Counts}
+use Rattle.running.specs.Run.{ranSays, countedSays, endFrom, phaseFrom, cnots, phases, score, inverters, Runs, Counts}
 use Rattle.fold.specs.declared.Folded.{Folded}
 use Rattle.fold.specs.Fold.{foldedFile, foldedSays, Folds}
 use Rattle.fold.proofs.Callers.{foldValues}
@@ -48,7 +48,7 @@ module _ (f : List ℕ) where
 
   pub count-whole : (a : Counted) → Counts (take 8201 f) a → Counts f a
   count-whole a =
-      carried (fileChecks 0) (take 8201 f) f (file-cut 0 f) (file-whole 0 f) (λ o g. Says countedSays o (cnots (gatesOf g) ∷ phases (gatesOf g) ∷ score (gatesOf g) ∷ []) a) (λ r x. x)
+      carried (fileChecks 0) (take 8201 f) f (file-cut 0 f) (file-whole 0 f) (λ o g. Says countedSays o (cnots (gatesOf g) ∷ phases (gatesOf g) ∷ score (gatesOf g) ∷ inverters (gatesOf g) ∷ []) a) (λ r x. x)
 
   pub run-whole : (start : ℕ) (a : Ran) → Runs (take 8201 f) start a → Runs f start a
   run-whole start a =

@@ -50,7 +50,7 @@ fn row_words(row: usize) {
         : an unused table bit is 1\n\0\
         : the file is under 8 bytes\n\0\
         : the mark is wrong\n\0\
-        : the version is not 1\n\0\
+        : the version is neither 1 nor 2\n\0\
         : the wires are 0 or above 10\n\0\
         : the gate count is above 2048\n\0\
         : the file's length is not 8 + 4 times the gate count\n\0\
@@ -125,7 +125,7 @@ pub(crate) fn usage() {
 phg build N TABLE OUT                   writes the circuit of the table's oracle
 phg read FILE                           wires and gates
 phg run FILE START                      end state and phase
-phg count FILE                          CNOTs, phase gates and score
+phg count FILE                          CNOTs, phase gates, score and inverters
 phg fold FILE OUT                       folds the phase gates and writes the file
 phg compare [--differences] FILE FILE   whether two circuits do the same
 phg judge [--differences] N TABLE FILE  whether a circuit is the table's oracle

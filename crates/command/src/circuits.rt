@@ -65,9 +65,10 @@ fn count(file: &[u8]) {
             cnots,
             phases,
             score,
+            inverters,
         } => {
-            let row = [cnots, phases, score];
-            answers::numbers(b"cnots \0 phases \0 score ", &row);
+            let row = [cnots, phases, score, inverters];
+            answers::numbers(b"cnots \0 phases \0 score \0 inverters ", &row);
         }
     }
 }
