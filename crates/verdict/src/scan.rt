@@ -70,10 +70,10 @@ fn end_at(ends: &[u16], wires: u8, state: usize) -> u16
     let count = wires as usize;
     let bits = usize::count_ones(state) as usize;
     let mut end: u16 = where_set((bits + 1) % 2, ends[0]);
-    let mut i: usize = 0;
-    while i < count {
-        end = end ^ where_set((state >> i) % 2, ends[i + 1]);
-        i += 1;
+    let mut wire: usize = 0;
+    while wire < count {
+        end = end ^ where_set((state >> wire) % 2, ends[wire + 1]);
+        wire += 1;
     }
     end
 }

@@ -9,10 +9,10 @@ use Rattle.verdict.proofs.scan.end_at.Statement.{statement}
 use Rattle.verdict.proofs.scan.end_at.Tie as tie
 
 abbrev Inv-loop : tie.InvT-loop
-Inv-loop ends wires state count bits end₀ i₀ end i = (i ≤ wires) × (end ≡ endOf i (entry ends) state)
+Inv-loop ends wires state count bits end₀ wire₀ end wire = (wire ≤ wires) × (end ≡ endOf wire (entry ends) state)
 
 abbrev μ-loop : tie.MeasureT-loop
-μ-loop ends wires state count bits end₀ i₀ end i = wires - i
+μ-loop ends wires state count bits end₀ wire₀ end wire = wires - wire
 
 abbrev start : tie.After-where-set Inv-loop μ-loop → tie.Start Inv-loop μ-loop
 start c = c .before .before .before
@@ -53,8 +53,8 @@ shared-slice-read-where-set-2 c = omega arith
 where-set-requires-2 : tie.Need-where-set-requires-2 Inv-loop μ-loop
 where-set-requires-2 c κs = omega arith
 
-add-i : tie.Need-add-i Inv-loop μ-loop
-add-i c = omega arith
+add-wire : tie.Need-add-wire Inv-loop μ-loop
+add-wire c = omega arith
 
 loop-less : tie.Need-loop-less Inv-loop μ-loop
 loop-less c = omega arith
@@ -65,13 +65,13 @@ loop-again c =
     let l = at .loop in
     let a = start (at .before) .args in
     let r = c .where-set2 in
-    (omega arith, end-next (entry (a .ends .now)) (a .state) (l .end) (l .i) (r .result) (l .inv .1) (r .ensures))
+    (omega arith, end-next (entry (a .ends .now)) (a .state) (l .end) (l .wire) (r .result) (l .inv .1) (r .ensures))
 
 returns : tie.Need-returns Inv-loop μ-loop
 returns c =
     let l = c .before .loop in
     let a = start (c .before .before) .args in
-    l .inv .1 ∙ ap (λ (n : ℕ). endOf n (entry (a .ends .now)) (a .state)) (let e : l .i ≡ a .wires = omega arith in e)
+    l .inv .1 ∙ ap (λ (n : ℕ). endOf n (entry (a .ends .now)) (a .state)) (let e : l .wire ≡ a .wires = omega arith in e)
 
 pub end-at-spec : {M : Type 1} → statement M
 end-at-spec =
@@ -89,7 +89,7 @@ end-at-spec =
     mul-where-set
     shared-slice-read-where-set-2
     where-set-requires-2
-    add-i
+    add-wire
     loop-less
     loop-again
     returns)
