@@ -24,7 +24,7 @@ pub cnots-cons : (g : Gate) (gs : List Gate) → cnots (g ∷ gs) ≡ cnots (g �
 unfolding cnots
 cnots-cons (Cnot c t) gs = refl
 cnots-cons (Phase i a) gs = sym (zero-add (cnots gs))
-cnots-cons (Inverter i) gs = omega arith
+cnots-cons (Inverter i) gs = sym (zero-add (cnots gs))
 
 pub score-cons : (g : Gate) (gs : List Gate) → score (g ∷ gs) ≡ score (g ∷ []) + score gs
 unfolding scoreBy

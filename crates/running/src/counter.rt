@@ -20,43 +20,33 @@ pub fn scored(angle: u16) -> u16
     if angle % FREE_TURN == 0 { 0 } else { 1 }
 }
 
-// A gate's own count of CNOTs, its own score, and its own count of inverters.
-fn one_cnot(gate: Gate) -> u16
-    ensures { λ r. ⌜ r ≡ cnots (gate ∷ []) ⌝ }
+// What one gate counts.
+struct Tally {
+    cnots: u16,
+    score: u16,
+    inverters: u16,
+}
+
+fn own(cnots: u16, score: u16, inverters: u16) -> Tally
+    ensures { λ r. ⌜ (r .cnots ≡ cnots) × (r .score ≡ score) × (r .inverters ≡ inverters) ⌝ }
 {
-    match gate {
-        Gate::Cnot {
-            control: _,
-            target: _,
-        } => 1,
-        Gate::Phase { wire: _, angle: _ } => 0,
-        Gate::Inverter { wire: _ } => 0,
+    Tally {
+        cnots,
+        score,
+        inverters,
     }
 }
 
-fn one_scored(gate: Gate) -> u16
-    ensures { λ r. ⌜ r ≡ score (gate ∷ []) ⌝ }
+fn counts_of(gate: Gate) -> Tally
+    ensures { λ r. ⌜ (r .cnots ≡ cnots (gate ∷ [])) × (r .score ≡ score (gate ∷ [])) × (r .inverters ≡ inverters (gate ∷ [])) ⌝ }
 {
     match gate {
         Gate::Cnot {
             control: _,
             target: _,
-        } => 0,
-        Gate::Phase { wire: _, angle } => scored(angle),
-        Gate::Inverter { wire: _ } => 0,
-    }
-}
-
-fn one_inverter(gate: Gate) -> u16
-    ensures { λ r. ⌜ r ≡ inverters (gate ∷ []) ⌝ }
-{
-    match gate {
-        Gate::Cnot {
-            control: _,
-            target: _,
-        } => 0,
-        Gate::Phase { wire: _, angle: _ } => 0,
-        Gate::Inverter { wire: _ } => 1,
+        } => own(1, 0, 0),
+        Gate::Phase { wire: _, angle } => own(0, scored(angle), 0),
+        Gate::Inverter { wire: _ } => own(0, 0, 1),
     }
 }
 
@@ -70,10 +60,10 @@ fn count_gates(file: &[u8], gates: usize) -> Counted
     let mut inverters: u16 = 0;
     let mut i: usize = 0;
     while i < gates {
-        let gate = circuit::good_gate(file, i);
-        cnots += one_cnot(gate);
-        score += one_scored(gate);
-        inverters += one_inverter(gate);
+        let own = counts_of(circuit::good_gate(file, i));
+        cnots += own.cnots;
+        score += own.score;
+        inverters += own.inverters;
         i += 1;
     }
     let phases = gates - ((cnots + inverters) as usize);

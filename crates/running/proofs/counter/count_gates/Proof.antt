@@ -20,8 +20,11 @@ abbrev μ-loop : tie.MeasureT-loop
 abbrev start : tie.At-loop Inv-loop μ-loop → tie.Start Inv-loop μ-loop
 start c = c .before .before
 
-abbrev loop : tie.After-good-gate Inv-loop μ-loop → tie.At-loop Inv-loop μ-loop
-loop c = c .before .before
+abbrev loop : tie.After-counts-of Inv-loop μ-loop → tie.At-loop Inv-loop μ-loop
+loop c = c .before .before .before
+
+abbrev counted : tie.After-struct-known3 Inv-loop μ-loop → tie.After-counts-of Inv-loop μ-loop
+counted c = c .before .before .before
 
 bytes : (c : tie.At-loop Inv-loop μ-loop) → Bytes (start c .args .file .now)
 bytes c j = c .before .shared-slice-known .given j .fits
@@ -29,37 +32,36 @@ bytes c j = c .before .shared-slice-known .given j .fits
 good : (c : tie.At-loop Inv-loop μ-loop) → GoodFile (start c .args .file .now)
 good c = good-file 0 (start c .args .file .now) (start c .pre .0)
 
+-- a gate counts once
+once : (c : tie.After-counts-of Inv-loop μ-loop) → c .counts-of .result .cnots + c .counts-of .result .score + c .counts-of .result .inverters ≤ 1
+once c = let e = c .counts-of .ensures in omega (arith, one-counted (c .before .good-gate .result), e .0, e .1, e .2)
+
 loop-holds : tie.Need-loop-holds Inv-loop μ-loop
 loop-holds c = (walk-starts countStep (c .before .args .file .now) (0, 0, 0), omega arith)
 
 good-gate-requires : tie.Need-good-gate-requires Inv-loop μ-loop
 good-gate-requires c κs = search needs
 
-one-cnot-requires : tie.Need-one-cnot-requires Inv-loop μ-loop
-one-cnot-requires c κs = search needs
+counts-of-requires : tie.Need-counts-of-requires Inv-loop μ-loop
+counts-of-requires c κs = search needs
 
 add-cnots : tie.Need-add-cnots Inv-loop μ-loop
 add-cnots c =
-    let at = loop (c .before) in
-    omega (arith, at .loop .inv .1, good at .count, start at .pre .1, one-counted (c .before .good-gate .result), c .one-cnot .ensures)
-
-one-scored-requires : tie.Need-one-scored-requires Inv-loop μ-loop
-one-scored-requires c κs = search needs
+    let own = c .before in
+    let at = loop own in
+    omega (arith, at .loop .inv .1, good at .count, start at .pre .1, once own)
 
 add-score : tie.Need-add-score Inv-loop μ-loop
 add-score c =
-    let taken = c .before .before in
-    let at = loop taken in
-    omega (arith, at .loop .inv .1, good at .count, start at .pre .1, one-counted (taken .good-gate .result), c .one-scored .ensures)
-
-one-inverter-requires : tie.Need-one-inverter-requires Inv-loop μ-loop
-one-inverter-requires c κs = search needs
+    let own = c .before .before in
+    let at = loop own in
+    omega (arith, at .loop .inv .1, good at .count, start at .pre .1, once own)
 
 add-inverters : tie.Need-add-inverters Inv-loop μ-loop
 add-inverters c =
-    let taken = c .before .before .before in
-    let at = loop taken in
-    omega (arith, at .loop .inv .1, good at .count, start at .pre .1, one-counted (taken .good-gate .result), c .one-inverter .ensures)
+    let own = counted c in
+    let at = loop own in
+    omega (arith, at .loop .inv .1, good at .count, start at .pre .1, once own)
 
 add-i : tie.Need-add-i Inv-loop μ-loop
 add-i c = omega arith
@@ -69,17 +71,15 @@ loop-less c = omega arith
 
 loop-again : tie.Need-loop-again Inv-loop μ-loop
 loop-again c =
-    let scored = c .before in
-    let taken = scored .before .before in
-    let at = loop taken in
+    let own = counted c in
+    let at = loop own in
     let a = start at .args in
-    let g = taken .good-gate .result in
-    let x = scored .before .one-cnot in
-    let y = scored .one-scored in
-    let z = c .one-inverter in (
-      walk-goes-on (a .file .now) (bytes at) (good at) (at .loop .i) g (omega (arith, start at .pre .1)) (taken .good-gate .ensures) countStep (0, 0, 0) (at .loop .cnots, at .loop .score, at .loop .inverters) (at .loop .cnots + x .result, at .loop .score + y .result, at .loop .inverters + z .result)
-          (count-stepped g (at .loop .cnots) (at .loop .score) (at .loop .inverters) (x .result) (y .result) (z .result) (x .ensures) (y .ensures) (z .ensures)) (at .loop .inv .0),
-      omega (arith, at .loop .inv .1, one-counted g, x .ensures, y .ensures, z .ensures),
+    let taken = own .before .good-gate in
+    let r = own .counts-of .result in
+    let e = own .counts-of .ensures in (
+      walk-goes-on (a .file .now) (bytes at) (good at) (at .loop .i) (taken .result) (omega (arith, start at .pre .1)) (taken .ensures) countStep (0, 0, 0) (at .loop .cnots, at .loop .score, at .loop .inverters) (at .loop .cnots + r .cnots, at .loop .score + r .score, at .loop .inverters + r .inverters)
+          (count-stepped (taken .result) (at .loop .cnots) (at .loop .score) (at .loop .inverters) (r .cnots) (r .score) (r .inverters) (e .0) (e .1) (e .2)) (at .loop .inv .0),
+      omega (arith, at .loop .inv .1, once own),
     )
 
 add-phases : tie.Need-add-phases Inv-loop μ-loop
@@ -114,11 +114,9 @@ count-gates-spec =
     μ-loop
     loop-holds
     good-gate-requires
-    one-cnot-requires
+    counts-of-requires
     add-cnots
-    one-scored-requires
     add-score
-    one-inverter-requires
     add-inverters
     add-i
     loop-less
