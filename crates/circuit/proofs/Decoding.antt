@@ -3,10 +3,11 @@ use Prim.Native.Nat.{ℕ, zero, suc, _+_, _*_, _/_, _%_, _<_, _≤_}
 use native.Mathlib.Nat.{add-zero, add-suc, suc-add}
 use native.Mathlib.Decide.{decLt, ℕ-discrete}
 use native.Mathlib.Omega.{arith}
-use mathlib.Core.Bool.{Bool, true, false, _||_, cond}
+use mathlib.Core.Bool.{Bool, true, false, not, _||_, cond}
 use mathlib.Core.Path.{_≡_, refl, sym, ap, ap₂, subst, subst₂, _∙_}
 use mathlib.Core.Logic.{_⊎_, inl, inr}
 use mathlib.Core.List.{List, [], _∷_, _++_, append-nil, append-assoc}
+use lib.Dec.{leb, eqb}
 use lib.ListN.{length, getD, drop, length-drop}
 use lib.Seq.{drop-drop, getD-drop}
 use borrow.Author.Tests.{le-leb, lt-leb, eq-eqb, ne-eqb}
@@ -20,7 +21,7 @@ use Rattle.circuit.specs.declared.Decoded.{Decoded}
 use Rattle.circuit.specs.declared.Decoded.the-variants.{Good, Bad}
 use Rattle.circuit.specs.Bytes.{Bytes}
 use Rattle.circuit.specs.Gates.{badKind, badWire, equalWires, badSpare, gateSaid, good, decoded, decodedAt, firstBad, gatesFrom, gateBytes, bytesOf}
-use Rattle.circuit.specs.Working.{bad, Sound, AllSound, Admitted, AllAdmitted}
+use Rattle.circuit.specs.Working.{bad, lowBad, highBad, Sound, AllSound, Admitted, AllAdmitted}
 
 pub bytes-drop : (n : ℕ) (bs : List ℕ) → Bytes bs → Bytes (drop n bs)
 bytes-drop n bs h i = rw (getD-drop n bs i 0) (h (n + i))
@@ -173,6 +174,33 @@ none-hold false true e s d h = let z : _≡_ {A = ℕ} 0 1 = cc in absurd (omega
 none-hold false false true s d h = let z : _≡_ {A = ℕ} 0 1 = cc in absurd (omega arith)
 none-hold false false false true d h = let z : _≡_ {A = ℕ} 0 1 = cc in absurd (omega arith)
 none-hold false false false false d h = refl
+
+-- the two halves of the question are the question
+or-false : (b : Bool) → b || false ≡ b
+or-false true = refl
+or-false false = refl
+
+or-assoc : (a b c : Bool) → (a || b) || c ≡ a || (b || c)
+or-assoc true b c = refl
+or-assoc false b c = refl
+
+pub low-kind : (v w kind a b c : ℕ) → kind < 3 → lowBad w kind a b c ≡ bad v w kind a b c
+low-kind v w zero a b c h = refl
+low-kind v w (suc zero) a b c h = ap (λ (s : Bool). ((leb w a || leb w b) || eqb a b) || s) (sym (or-false (not (eqb c 0))))
+low-kind v w (suc (suc zero)) a b c h = refl
+low-kind v w (suc (suc (suc k))) a b c h = absurd (omega arith)
+
+pub high-kind : (v w kind a b c : ℕ) → 3 ≤ kind → highBad v w kind a b c ≡ bad v w kind a b c
+high-kind v w kind a b c h = by (ℕ-discrete kind 3)
+  where
+    three : highBad v w 3 a b c ≡ bad v w 3 a b c
+    three =
+        or-assoc (badKind v 3 || leb w a) (not (eqb b 0)) (not (eqb c 0))
+        ∙ ap (λ (s : Bool). s || (not (eqb b 0) || not (eqb c 0))) (ap (badKind v 3 ||_) (sym (or-false (leb w a))) ∙ sym (or-false (badKind v 3 || (leb w a || false))))
+
+    by : Dec (kind ≡ 3) → highBad v w kind a b c ≡ bad v w kind a b c
+    by (yes e) = rw e three
+    by (no e) = rw (ne-eqb kind 1 (λ q. omega arith), ne-eqb kind 2 (λ q. omega arith), ne-eqb kind 3 e)
 
 -- the decoder's answer where the bytes are bad, and where they are not
 module _ (v w p k a b c : ℕ) where

@@ -1,9 +1,9 @@
 -- A gate's bytes as the code takes them, walks over gates, and what is written at a place.
 use Prim.Native.Nat.{ℕ, _+_, _*_, _<_}
 use mathlib.Core.Path.{_≡_}
-use mathlib.Core.Bool.{Bool, _||_, cond}
+use mathlib.Core.Bool.{Bool, not, _||_, _&&_, cond}
 use mathlib.Core.List.{List, [], _∷_, _++_}
-use lib.Dec.{leb}
+use lib.Dec.{leb, eqb}
 use lib.ListN.{length, getD}
 use Rattle.circuit.specs.Bytes.{putAt}
 use Rattle.circuit.specs.declared.Gate.{Gate}
@@ -13,6 +13,13 @@ use Rattle.circuit.specs.Gates.{badKind, badWire, equalWires, badSpare, 
 -- whether four bytes are bad on w wires in a file of a version, for whatever reason
 abbrev pub bad : ℕ → ℕ → ℕ → ℕ → ℕ → ℕ → Bool
 bad version w kind a b c = ((badKind version kind || badWire w kind a b) || equalWires kind a b) || badSpare kind b c
+
+-- the same of a kind below 3, and of one from 3 on, as the code asks it
+abbrev pub lowBad : ℕ → ℕ → ℕ → ℕ → ℕ → Bool
+lowBad w kind a b c = ((eqb kind 0 || badWire w kind a b) || equalWires kind a b) || (eqb kind 1 && not (eqb c 0))
+
+abbrev pub highBad : ℕ → ℕ → ℕ → ℕ → ℕ → ℕ → Bool
+highBad version w kind a b c = ((badKind version kind || leb w a) || not (eqb b 0)) || not (eqb c 0)
 
 -- the i-th four bytes after the header
 abbrev pub fourAt : List ℕ → ℕ → List ℕ

@@ -6,7 +6,7 @@ use crate::Reason;
 ghost use mathlib.Core.Path.{_≡_};
 ghost use Prim.Native.Nat.{_+_, _*_};
 ghost use Rattle.circuit.specs.Gates.{badKind, badWire, equalWires, badSpare, gateSaid, decoded, reasonNumber, reasonOf};
-ghost use Rattle.circuit.specs.Working.{bad};
+ghost use Rattle.circuit.specs.Working.{bad, lowBad, highBad};
 
 // 16 bits, high byte first.
 pub(crate) fn sixteen_bits(high: u8, low: u8) -> u16
@@ -39,14 +39,29 @@ fn bad_spare(kind: u8, b: u8, c: u8) -> bool
     ((kind == 1) & (c != 0)) | ((kind == 3) & ((b != 0) | (c != 0)))
 }
 
-// Whether four bytes are no gate on `w` wires. No branch depends on the kind: in a circuit it is hard to foretell.
+// Whether four bytes are no gate on `w` wires: those of a kind below 3.
+fn low_bad(w: u8, kind: u8, a: u8, b: u8, c: u8) -> bool
+    ensures { λ r. ⌜ r ≡ lowBad w kind a b c ⌝ }
+{
+    (kind == 0) | bad_wire(w, kind, a, b) | equal_wires(kind, a, b) | ((kind == 1) & (c != 0))
+}
+
+// And those of a kind from 3 on.
+fn high_bad(version: u16, w: u8, kind: u8, a: u8, b: u8, c: u8) -> bool
+    ensures { λ r. ⌜ r ≡ highBad version w kind a b c ⌝ }
+{
+    bad_kind(version, kind) | (a >= w) | (b != 0) | (c != 0)
+}
+
+// Both. No branch depends on which of CNOT and phase it is: in a circuit that is hard to foretell. The kinds from 3 on are
+// apart because a version 1 file has none of them.
 pub(crate) fn is_bad(version: u16, w: u8, kind: u8, a: u8, b: u8, c: u8) -> bool
     ensures { λ r. ⌜ r ≡ bad version w kind a b c ⌝ }
 {
-    bad_kind(version, kind)
-        | bad_wire(w, kind, a, b)
-        | equal_wires(kind, a, b)
-        | bad_spare(kind, b, c)
+    if kind < 3 {
+        return low_bad(w, kind, a, b, c);
+    }
+    high_bad(version, w, kind, a, b, c)
 }
 
 // The gate of four bytes that are good.

@@ -1,26 +1,24 @@
+use mathlib.Core.Path.{_∙_}
 use borrow.Author.Needs.{needs}
+use Rattle.circuit.proofs.Decoding.{low-kind, high-kind}
 use Rattle.circuit.proofs.decoder.is_bad.Statement.{statement}
 use Rattle.circuit.proofs.decoder.is_bad.Tie as tie
 
-bad-kind-requires : tie.Need-bad-kind-requires
-bad-kind-requires c κs = search needs
-
-bad-wire-requires : tie.Need-bad-wire-requires
-bad-wire-requires c κs = search needs
-
-equal-wires-requires : tie.Need-equal-wires-requires
-equal-wires-requires c κs = search needs
-
-bad-spare-requires : tie.Need-bad-spare-requires
-bad-spare-requires c κs = search needs
+low-bad-requires : tie.Need-low-bad-requires
+low-bad-requires c κs = search needs
 
 returns : tie.Need-returns
 returns c =
-    let equal = c .before in
-    let wire = equal .before in
-    rw (wire .before .bad-kind .ensures, wire .bad-wire .ensures, equal .equal-wires .ensures, c .bad-spare .ensures)
+    let a = c .before .before .args in
+    c .low-bad .ensures ∙ low-kind (a .version) (a .w) (a .kind) (a .a) (a .b) (a .c) (c .before .if1 .taken)
+
+high-bad-requires : tie.Need-high-bad-requires
+high-bad-requires c κs = search needs
+
+returns-2 : tie.Need-returns-2
+returns-2 c =
+    let a = c .before .before .args in
+    c .high-bad .ensures ∙ high-kind (a .version) (a .w) (a .kind) (a .a) (a .b) (a .c) (c .before .if1 .left)
 
 pub is-bad-spec : {M : Type 1} → statement M
-is-bad-spec =
-    tie.close
-    (tie.spec bad-kind-requires bad-wire-requires equal-wires-requires bad-spare-requires returns)
+is-bad-spec = tie.close (tie.spec low-bad-requires returns high-bad-requires returns-2)
