@@ -12,7 +12,7 @@ use lib.Pow.{pow-pos, pow-lt, pow-mono}
 use Rattle.numbers.specs.Bits.{bit, dot}
 use Rattle.numbers.specs.Sums.{sum, list}
 use Rattle.numbers.proofs.Sums.{sumOf-ext}
-use Rattle.numbers.proofs.Lists.{length-list, getD-list, list-ext}
+use Rattle.numbers.proofs.Lists.{list-ext}
 use Rattle.numbers.proofs.Digits.{digits, digits-below}
 use Rattle.numbers.proofs.Parity.{dot-comm, dot-none, dot-step}
 use Rattle.numbers.proofs.Wires.{bit-xor, dot-power, xor-adds}
@@ -20,11 +20,9 @@ use Rattle.circuit.specs.declared.Gate.{Gate}
 use Rattle.circuit.specs.Working.{AllSound}
 use Rattle.circuit.proofs.Decoding.{all-wider}
 use Rattle.running.specs.Run.{endFrom}
-use Rattle.running.specs.Masks.{mostWires, mostMasks, ownHeld, heldAt, heldFrom}
-use Rattle.running.specs.Groups.{numberOf}
-use Rattle.running.specs.Working.{startOf}
-use Rattle.running.proofs.Masks.{dot-start, wire-parity}
-use Rattle.running.proofs.Held.{number-at}
+use Rattle.running.specs.Masks.{mostWires, mostMasks}
+use Rattle.running.specs.Working.{ownNumbers, numbersFrom, startOf}
+use Rattle.running.proofs.Masks.{length-numbers, dot-start, wire-parity}
 use Rattle.running.proofs.Runs.{end-below}
 use Rattle.coefficients.specs.Coefficients.{listedStart, listedEnds}
 use Rattle.coefficients.specs.Working.{entry, column, listedColumn}
@@ -61,9 +59,9 @@ turned-column held zero c f h p q = absurd (h refl)
 turned-column held (suc i) c f h p q = ap₂ bitXor p q
 
 -- a circuit on w wires, what they hold kept for as many as there can be
-module _ (w : ℕ) (gs : List Gate) (few : w ≤ mostWires) (sound : AllSound w gs) (held : List ℕ) (e : held ≡ list mostWires (λ i. numberOf (heldAt (heldFrom gs (ownHeld mostWires)) i))) where
-  held-long : length held ≡ mostWires
-  held-long = ap length e ∙ length-list mostWires (λ i. numberOf (heldAt (heldFrom gs (ownHeld mostWires)) i))
+module _ (w : ℕ) (gs : List Gate) (few : w ≤ mostWires) (sound : AllSound w gs) (held : List ℕ) (e : held ≡ numbersFrom gs (ownNumbers mostWires)) where
+  pub held-long : length held ≡ mostWires
+  held-long = ap length e ∙ length-numbers gs (ownNumbers mostWires)
 
   front-long : length (take w held) ≡ w
   front-long = length-take-le w held (omega (arith, held-long))
@@ -77,7 +75,7 @@ module _ (w : ℕ) (gs : List Gate) (few : w ≤ mostWires) (sound : AllSound w 
   end-parity x j l =
       wire-parity mostWires gs (all-wider w mostWires gs few sound) x j (omega arith)
       ∙ ap (λ (n : ℕ). dot n (startOf x))
-      (sym (getD-take w held j 0 l ∙ ap (λ (h : List ℕ). entry h j) e ∙ getD-list mostWires (λ i. numberOf (heldAt (heldFrom gs (ownHeld mostWires)) i)) j 0 (omega arith) ∙ number-at mostWires gs j))
+      (sym (getD-take w held j 0 l ∙ ap (λ (h : List ℕ). entry h j) e))
 
   -- a column is the state that has its bits
   is-state : (i s : ℕ) → s < 2 ^ w → ((j : ℕ) → j < w → bit (number j) i ≡ bit s j) → column (take w held) i ≡ s

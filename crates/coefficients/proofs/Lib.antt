@@ -6,9 +6,9 @@ mod Gathering
 mod Blocks
 mod Weighing
 mod Filling
+mod Signing
 mod Ends
 mod Summaries
 mod Turning
 mod Answers
 pub mod Callers
-mod Constants

@@ -1,15 +1,17 @@
 -- What the working computes on the way to a summary; the laws show that it is the paper's.
-use Prim.Native.Nat.{ℕ, zero, suc, _+_, _*_, _%_, _^_, _<_, _≤_}
+use Prim.Native.Nat.{ℕ, zero, suc, _+_, _*_, _/_, _%_, _^_, _<_, _≤_}
 use mathlib.Core.Path.{_≡_}
 use mathlib.Core.Logic.{_⊎_}
 use mathlib.Core.Bool.{Bool, true, false}
 use mathlib.Core.List.{List, _++_}
 use lib.Count.{ones}
-use lib.ListN.{length, getD, take, drop}
+use lib.ListN.{length, getD, set, take, drop}
 use lib.Bits.{bitXor}
 use Rattle.numbers.specs.Bits.{bit, subset}
 use Rattle.numbers.specs.Turn.{difference}
 use Rattle.numbers.specs.Sums.{sum, list}
+use Rattle.circuit.specs.declared.Gate.{Gate}
+use Rattle.running.specs.Working.{numbersAfter, Met, Unmet, At, met, metBy}
 
 abbrev pub entry : List ℕ → ℕ → ℕ
 entry v i = getD v i 0
@@ -56,13 +58,23 @@ weighedAt constant (suc s) x = weightOf (ones (suc s)) * x % 65536
 abbrev pub weighed : ℕ → List ℕ → ℕ → ℕ
 weighed constant v s = weighedAt constant s (entry v s)
 
--- of a row of groups' totals, mask by mask without and with the flip: what each mask has, those with the flip taken off
-abbrev pub signedAt : List ℕ → ℕ → ℕ
-signedAt totals m = difference (entry totals (m * 2)) (entry totals (m * 2 + 1))
+-- 02 §12, "A phase of a on a flipped mask adds a constant a and minus a on the mask.": what an angle makes of its mask's sum, by the flip
+abbrev pub signedBy : ℕ → ℕ → ℕ → ℕ
+signedBy zero x a = (x + a) % 65536
+signedBy (suc f) x a = difference x a
 
--- and all that has the flip
-abbrev pub flippedSum : ℕ → List ℕ → ℕ
-flippedSum size totals = sum size (λ m. entry totals (m * 2 + 1)) % 65536
+-- and what it adds to the constant, by the number that it meets
+abbrev pub turnedOf : ℕ → ℕ → ℕ
+turnedOf n a = a * (n % 2)
+
+-- a phase gate's angle, with its sign, at the mask that it meets
+abbrev pub signMet : Met → List ℕ → List ℕ
+signMet Unmet row = row
+signMet (At n a) row = set row (n / 2) (signedBy (n % 2) (entry row (n / 2)) a)
+
+-- the walk: the numbers, what each mask has, and the constant so far
+abbrev pub signStep : Gate → List ℕ × List ℕ × ℕ → List ℕ × List ℕ × ℕ
+signStep g s = (numbersAfter g (s .0), signMet (met g (s .0)) (s .1), (s .2 + metBy turnedOf (met g (s .0))) % 65536)
 
 -- bit i of what each wire holds
 abbrev pub column : List ℕ → ℕ → ℕ

@@ -11,8 +11,8 @@ mod summary;
 // the ideal of a table summed up
 mod ideal;
 
-// the constant, and what is left on each mask
-mod flips;
+// the constant, and what each mask has
+mod signs;
 
 // sums over sets
 mod sums;

@@ -1,48 +1,45 @@
 // A circuit summed up.
 use crate::empty;
-use crate::flips::constant_of;
-use crate::flips::unflip;
+use crate::signs::add_gates;
 use crate::sums::gather;
 use crate::weights::weigh;
 use circuit::Reading;
-use running::GROUPS;
 ghost use mathlib.Core.Path.{_≡_};
 ghost use mathlib.Core.Bool.{true};
-ghost use Prim.Native.Nat.{ℕ, _+_, _*_, _^_, _≤_, _<_};
+ghost use Prim.Native.Nat.{ℕ, _+_, _^_, _≤_, _<_};
 ghost use lib.ListN.{length};
 ghost use Rattle.numbers.specs.Sums.{list};
 ghost use Rattle.circuit.specs.Bytes.{putAt};
 ghost use Rattle.running.specs.Masks.{mostWires, mostMasks};
 ghost use Rattle.coefficients.specs.Summaries.{Summarises};
-ghost use Rattle.coefficients.specs.Working.{gathered, weighed, signedAt, flippedSum, column, listedColumn};
+ghost use Rattle.coefficients.specs.Working.{gathered, weighed, column, listedColumn};
 
 // A file's wires and gate count as the reader says them, its circuit's coefficients and the ends of its listed starts,
 // each at the front of a slice where they fit, or the refusal of the file.
 pub fn summarise(file: &[u8], side: u8, row: &mut [u16], ends: &mut [u16]) -> Reading
     ensures { λ r. ⌜ Summarises side (now (file .entry)) (now (row .entry)) (now (ends .entry)) r (now (row .exit)) (now (ends .exit)) ⌝ }
 {
-    let mut totals = [0u16; GROUPS];
-    let mut held = running::own_held();
-    match running::sum_groups(file, side, &mut totals, &mut held) {
+    match circuit::read_side(file, side) {
         Reading::Refused(refusal) => Reading::Refused(refusal),
         Reading::Circuit { wires, gates } => {
-            let size = numbers::power(wires);
+            let mut held = running::own_held();
             let mut signed = empty();
-            put_coefficients(&totals[..size + size], &mut signed[..size], row);
+            let constant = add_gates(file, gates, &mut held, &mut signed);
+            let size = numbers::power(wires);
+            put_coefficients(&mut signed[..size], constant, row);
             put_ends(&held[..wires as usize], ends);
             Reading::Circuit { wires, gates }
         }
     }
 }
 
-// From the total of each group to the coefficient of each set; `signed` has a place for each mask.
-fn put_coefficients(totals: &[u16], signed: &mut [u16], row: &mut [u16])
-    requires { ⌜ (length (now totals) ≡ 2 * length (now signed)) × (length (now signed) ≤ mostMasks) ⌝ }
-    ensures { λ _. ⌜ ((n : ℕ) → length (now (signed .entry)) ≡ 2 ^ n → now (row .exit) ≡ putAt (list (2 ^ n) (weighed (flippedSum (2 ^ n) (now (totals .entry))) (gathered true n (list (2 ^ n) (signedAt (now (totals .entry))))))) 0 (now (row .entry))) ⌝ }
+// From what each mask has to the coefficient of each set, and the constant at the empty one.
+fn put_coefficients(signed: &mut [u16], constant: u16, row: &mut [u16])
+    requires { ⌜ length (now signed) ≤ mostMasks ⌝ }
+    ensures { λ _. ⌜ ((n : ℕ) → length (now (signed .entry)) ≡ 2 ^ n → now (row .exit) ≡ putAt (list (2 ^ n) (weighed constant (gathered true n (now (signed .entry))))) 0 (now (row .entry))) ⌝ }
 {
-    unflip(totals, signed);
     gather(signed, true);
-    weigh(signed, constant_of(totals), row);
+    weigh(signed, constant, row);
 }
 
 // Where each listed start ends, at the front of `ends`; where they do not fit, nothing is written.

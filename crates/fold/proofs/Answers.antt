@@ -23,7 +23,7 @@ use Rattle.circuit.proofs.Writing.{put-fits, put-put}
 use Rattle.fold.specs.declared.Folded.{Folded}
 use Rattle.fold.specs.declared.Folded.the-variants.{File, Refused}
 use Rattle.running.specs.Masks.{mostWires}
-use Rattle.running.specs.Groups.{mostGroups, totalsOf}
+use Rattle.running.specs.Working.{mostGroups, totalsOf}
 use Rattle.running.proofs.Groups.{total-at}
 use Rattle.fold.specs.Fold.{folded, foldedFile, foldedSays, Folds}
 use Rattle.fold.specs.Working.{staying, keptIn, scoreIn}

@@ -13,11 +13,10 @@ use Rattle.circuit.specs.declared.Gate.{Gate}
 use Rattle.circuit.specs.declared.Gate.the-variants.{Cnot, Phase, Inverter}
 use Rattle.circuit.specs.Working.{AllSound, AllAdmitted}
 use Rattle.running.specs.Run.{stepped, endFrom, totalFrom, phaseFrom, cnots, inverters}
-use Rattle.running.specs.Working.{ownNumbers, numbersAfter, numbersFrom, sumNumbers, startOf}
+use Rattle.running.specs.Working.{heldOf, ownNumbers, numbersAfter, numbersFrom, sumNumbers, startOf}
 use Rattle.running.proofs.Masks.{own-below, total-parity}
 use Rattle.running.proofs.Groups.{collect, divides-sum}
 use Rattle.running.specs.Masks.{heldAt, ownHeld, heldFrom}
-use Rattle.running.specs.Groups.{heldOf}
 use Rattle.running.proofs.Held.{held-number, total-number}
 use Rattle.fold.specs.Working.{movesOf}
 use Rattle.fold.specs.Fold.{folded}

@@ -7,3 +7,4 @@ pub mod Files
 mod Answers
 mod Stepping
 mod Writing
+mod Summing

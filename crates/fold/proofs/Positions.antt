@@ -13,10 +13,10 @@ use Rattle.numbers.proofs.Parity.{equal-yes, equal-no}
 use Rattle.circuit.specs.declared.Gate.{Gate}
 use Rattle.circuit.specs.declared.Gate.the-variants.{Cnot, Phase, Inverter}
 use Rattle.running.specs.Masks.{Held}
-use Rattle.running.specs.Working.{ownNumbers, numbersAfter, numbersFrom, met, metBy, sumNumbers}
+use Rattle.running.specs.Working.{heldOf, ownNumbers, numbersAfter, numbersFrom, met, metBy, sumNumbers}
 use Rattle.running.proofs.Masks.{numbers-none, numbers-cons, numbers-append, sum-none, sum-cons, sum-append}
 use Rattle.fold.specs.Fold.{kept, firstOnly, becomes, foldedFrom, folded}
-use Rattle.running.specs.Groups.{groupTotal, earlier, heldOf}
+use Rattle.running.specs.Groups.{groupTotal, earlier}
 use Rattle.running.proofs.Held.{before-number, earlier-number}
 use Rattle.fold.specs.Working.{left}
 use Rattle.fold.proofs.Remaining.{cleared, takes, after, remains, same-function, cleared-own, cleared-other}

@@ -17,8 +17,7 @@ use Rattle.circuit.proofs.Callers.{GoodFile}
 use Rattle.circuit.proofs.Files.{file-sound}
 use Rattle.circuit.proofs.Parts.{wrote-nothing}
 use Rattle.running.specs.Masks.{mostWires}
-use Rattle.running.specs.Working.{ownNumbers, numbersAfter, met}
-use Rattle.running.specs.Groups.{totalsOf}
+use Rattle.running.specs.Working.{totalsOf, ownNumbers, numbersAfter, met}
 use Rattle.running.proofs.Masks.{own-alike}
 use Rattle.running.proofs.Groups.{total-at}
 use Rattle.fold.specs.Fold.{folded}

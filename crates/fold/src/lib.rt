@@ -47,7 +47,7 @@ fn fold_good(file: &[u8], gates: usize, moves: usize, before: usize, out: &mut [
     requires { ⌜ (moves ≡ cnotsIn (gatesOf (now file)) + invertersIn (gatesOf (now file))) × (before ≡ score (gatesOf (now file))) ⌝ }
     ensures { λ r. ⌜ Folds (now (file .entry)) (now (out .entry)) r (now (out .exit)) ⌝ }
 {
-    let mut totals = totals::totals_of(file);
+    let mut totals = totals::totals_of(file, gates);
     let tally = totals::tally_of(&totals);
     let kept = moves + (tally.kept as usize);
     let length = 8 + 4 * kept;

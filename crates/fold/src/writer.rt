@@ -8,8 +8,7 @@ ghost use Rattle.circuit.specs.Working.{Wrote};
 ghost use Rattle.circuit.specs.Bytes.{putAt};
 ghost use Rattle.circuit.specs.Gates.{bytesOf};
 ghost use Rattle.circuit.specs.File.{wiresOf, countOf, gatesOf, fileChecks};
-ghost use Rattle.running.specs.Working.{met, numbersAfter};
-ghost use Rattle.running.specs.Groups.{totalsOf};
+ghost use Rattle.running.specs.Working.{totalsOf, met, numbersAfter};
 ghost use Rattle.fold.specs.Fold.{folded, kept};
 ghost use Rattle.fold.specs.Working.{takenFrom, found, left, leaves};
 

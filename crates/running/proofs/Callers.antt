@@ -1,18 +1,16 @@
--- What callers of `run`, `count` and `sum_groups` know when they answer and when they refuse; and that no two answers say the same.
+-- What callers of `run` and `count` know when they answer and when they refuse; and that no two answers say the same.
 use Prim.Native.Nat.{ℕ}
 use mathlib.Core.Path.{_≡_, ap}
 use mathlib.Core.List.{List, [], _∷_}
 use Rattle.refusal.specs.declared.Refusal.{Refusal}
 use Rattle.refusal.specs.Checks.{passed, refused, outcome}
 use Rattle.refusal.proofs.Contracts.{Distinct, same-refusal, answers-values, answers-refusal}
-use Rattle.circuit.specs.declared.Reading.{Reading}
 use Rattle.circuit.specs.File.{gatesOf, fileChecks}
 use Rattle.running.specs.declared.Ran.{Ran}
 use Rattle.running.specs.declared.Ran.the-variants.{End, Refused as RunRefused}
 use Rattle.running.specs.declared.Counted.{Counted}
 use Rattle.running.specs.declared.Counted.the-variants.{Gates, Refused as CountRefused}
 use Rattle.running.specs.Run.{endFrom, phaseFrom, runChecks, ranSays, Runs, cnots, phases, score, inverters, countedSays, Counts}
-use Rattle.running.specs.Groups.{totalsOf, endsHeld, SumsGroups}
 
 module _ (f : List ℕ) (start : ℕ) (r : Ran) (says : Runs f start r) where
   pub run-answers : (s p : ℕ) → r ≡ End s p → (outcome (runChecks f start) ≡ passed) × (s ≡ endFrom (gatesOf f) start) × (p ≡ phaseFrom (gatesOf f) start)
@@ -42,14 +40,6 @@ module _ (f : List ℕ) (r : Counted) (says : Counts f r) where
 
   pub count-refuses : (x : Refusal) → r ≡ CountRefused x → outcome (fileChecks 0 f) ≡ refused x
   count-refuses x e = answers-refusal countedSays (outcome (fileChecks 0 f)) counts r says x (ap countedSays e)
-
--- the totals and what the wires hold, of a file that passes, and of one that is refused
-module _ (side : ℕ) (f : List ℕ) {totals held : List ℕ} {answer : Reading} {totals′ held′ : List ℕ} (s : SumsGroups side f totals held answer totals′ held′) where
-  pub groups-answer : outcome (fileChecks side f) ≡ passed → (totals′ ≡ totalsOf f) × (held′ ≡ endsHeld f)
-  groups-answer e = (rw e at (s .sums), rw e at (s .holds))
-
-  pub groups-refuse : (x : Refusal) → outcome (fileChecks side f) ≡ refused x → (totals′ ≡ totals) × (held′ ≡ held)
-  groups-refuse x e = (rw e at (s .sums), rw e at (s .holds))
 
 pub ran-distinct : Distinct ranSays
 ran-distinct (End s p) (End t q) e = cc

@@ -18,8 +18,8 @@ use Rattle.circuit.specs.declared.Gate.the-variants.{Cnot, Phase, Inverter}
 use Rattle.running.specs.Run.{scores, scoreBy}
 use Rattle.circuit.specs.File.{wiresOf, gatesOf}
 use Rattle.running.specs.Masks.{mostWires}
-use Rattle.running.specs.Groups.{groupTotal, heldOf, mostGroups, totalsOf}
-use Rattle.running.specs.Working.{ownNumbers, numbersAfter, Met, Unmet, At, met, metBy, sumNumbers}
+use Rattle.running.specs.Groups.{groupTotal}
+use Rattle.running.specs.Working.{heldOf, mostGroups, totalsOf, ownNumbers, numbersAfter, Met, Unmet, At, met, metBy, sumNumbers}
 use Rattle.running.proofs.Masks.{NumbersBelow, own-below, after-below, sum-none, sum-cons}
 use Rattle.running.proofs.Held.{total-number}
 use Rattle.running.proofs.Meetings.{sumNumbers-≈}

@@ -19,8 +19,8 @@ use Rattle.circuit.specs.Working.{AllSound}
 use Rattle.circuit.proofs.Decoding.{sound-parts}
 use Rattle.running.specs.Run.{endFrom}
 use Rattle.running.specs.Masks.{Held, held, heldAt, ownHeld, mixed, heldAfter, heldFrom, meets, sumMet}
-use Rattle.running.specs.Groups.{sameHeld, groupTotal, heldBefore, earlier, numberOf, heldOf}
-use Rattle.running.specs.Working.{ownNumbers, numbersAfter, numbersFrom, met, metBy, sumNumbers}
+use Rattle.running.specs.Groups.{sameHeld, groupTotal, heldBefore, earlier}
+use Rattle.running.specs.Working.{numberOf, heldOf, ownNumbers, numbersAfter, numbersFrom, met, metBy, sumNumbers}
 use Rattle.running.proofs.Runs.{start-of}
 use Rattle.running.proofs.Masks.{dot-start, wire-parity}
 

@@ -9,4 +9,3 @@ pub mod Walks
 mod Answers
 mod Stepping
 mod Loops
-mod Summing

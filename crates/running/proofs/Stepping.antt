@@ -11,7 +11,7 @@ use Rattle.circuit.specs.declared.Gate.{Gate}
 use Rattle.circuit.specs.declared.Gate.the-variants.{Cnot, Phase, Inverter}
 use Rattle.circuit.specs.Working.{Sound}
 use Rattle.running.specs.Run.{stepped, added, cnots, score, inverters}
-use Rattle.running.specs.Working.{numbersAfter, Met, Unmet, At, met, runStep, countStep, addMet, sumStep}
+use Rattle.running.specs.Working.{runStep, countStep}
 use Rattle.running.proofs.Runs.{weight-below}
 use Rattle.running.proofs.Walks.{three}
 
@@ -42,22 +42,3 @@ run-stepped g s p turn s′ p′ t e q = ap₂ (λ (m n : ℕ). (m, n)) e (q ∙
 
 pub count-stepped : (g : Gate) (c s i x y z : ℕ) → x ≡ cnots (g ∷ []) → y ≡ score (g ∷ []) → z ≡ inverters (g ∷ []) → (c + x, s + y, i + z) ≡ countStep g (c, s, i)
 count-stepped g c s i x y z p q r = three (ap (c +_) p) (ap (s +_) q) (ap (i +_) r)
-
-module _ (g : Gate) (held row : List ℕ) where
-  -- a gate that meets nothing
-  pub inverter-adds : (i : ℕ) (after : List ℕ) → g ≡ Inverter i → after ≡ numbersAfter (Inverter i) held → (after ≡ numbersAfter g held) × (row ≡ addMet (met g held) row)
-  inverter-adds i after e p = subst (λ (h : Gate). (after ≡ numbersAfter h held) × (row ≡ addMet (met h held) row)) (sym e) (p, refl)
-
-  pub cnot-adds : (c t : ℕ) (after : List ℕ) → g ≡ Cnot c t → after ≡ numbersAfter (Cnot c t) held → (after ≡ numbersAfter g held) × (row ≡ addMet (met g held) row)
-  cnot-adds c t after e p = subst (λ (h : Gate). (after ≡ numbersAfter h held) × (row ≡ addMet (met h held) row)) (sym e) (p, refl)
-
-  pub phase-adds : (i a m : ℕ) (after : List ℕ) → g ≡ Phase i a → m ≡ getD held i 0 → after ≡ addMet (At m a) row → (held ≡ numbersAfter g held) × (after ≡ addMet (met g held) row)
-  phase-adds i a m after e d p =
-      subst (λ (h : Gate). (held ≡ numbersAfter h held) × (after ≡ addMet (met h held) row)) (sym e) (refl, p ∙ ap (λ (k : ℕ). addMet (At k a) row) d)
-
-pub sum-stepped : (g : Gate) (held row held′ row′ : List ℕ) → held′ ≡ numbersAfter g held → row′ ≡ addMet (met g held) row → (held′, row′) ≡ sumStep g (held, row)
-sum-stepped g held row held′ row′ p q = ap₂ (λ (m n : List ℕ). (m, n)) p q
-
-pub length-added : (x : Met) (row : List ℕ) → length (addMet x row) ≡ length row
-length-added Unmet row = refl
-length-added (At m a) row = length-set row m ((getD row m 0 + a) % 65536)

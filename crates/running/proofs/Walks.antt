@@ -18,9 +18,9 @@ use Rattle.circuit.specs.Working.{walked}
 use Rattle.circuit.proofs.Callers.{GoodFile}
 use Rattle.circuit.proofs.Files.{file-sound}
 use Rattle.running.specs.Run.{stepped, added, endFrom, totalFrom, cnots, scoreBy, score, inverters}
-use Rattle.running.specs.Masks.{mostWires, heldAt, ownHeld, heldFrom}
-use Rattle.running.specs.Groups.{groupTotal, numberOf, heldOf, mostGroups, totalsOf, endsHeld}
-use Rattle.running.specs.Working.{ownNumbers, numbersAfter, numbersFrom, At, met, sumNumbers, runStep, countStep, addMet, sumStep}
+use Rattle.running.specs.Masks.{mostWires}
+use Rattle.running.specs.Groups.{groupTotal}
+use Rattle.running.specs.Working.{heldOf, mostGroups, totalsOf, ownNumbers, numbersAfter, numbersFrom, At, met, sumNumbers, runStep, countStep, addMet, sumStep}
 use Rattle.running.proofs.Counts.{cnots-cons, score-cons, inverters-cons}
 use Rattle.running.proofs.Masks.{NumbersBelow, own-below, after-below, length-numbers, own-alike, sum-alike, zeros}
 use Rattle.running.proofs.Held.{number-at, total-number}
@@ -84,16 +84,10 @@ totals-walked (Phase i a ∷ gs) ms row b h =
     let r = totals-walked gs ms (addMet (At k a) row) b (added-row row h k a (b i)) in
     (r .0, λ m. r .1 m ∙ rw (angle-added row h k a (b i) m) (let n = sumNumbers (λ k a. a * equal k m) gs ms in let e : ((getD row m 0 + a * equal k m) % 65536 + n) % 65536 ≡ (getD row m 0 + (a * equal k m + n)) % 65536 = omega arith in e))
 
--- a good file's totals, and what its wires hold at the end
+-- a good file's totals
 module _ (f : List ℕ) (bytes : Bytes f) (good : GoodFile f) (held row : List ℕ) (e : (held, row) ≡ walked sumStep (gatesOf f) (ownNumbers mostWires, replicate mostGroups 0)) where
   empty : Row (replicate mostGroups 0)
   empty = record { long = length-replicate {A = ℕ} mostGroups 0; small = λ m. rw (zeros mostGroups m) (omega arith) }
-
-  pub file-held : held ≡ endsHeld f
-  file-held =
-      ap (λ (s : List ℕ × List ℕ). s .0) e ∙ numbers-walked (gatesOf f) (ownNumbers mostWires) (replicate mostGroups 0)
-      ∙ is-list 0 (numbersFrom (gatesOf f) (ownNumbers mostWires)) mostWires (λ i. numberOf (heldAt (heldFrom (gatesOf f) (ownHeld mostWires)) i)) (length-numbers (gatesOf f) (ownNumbers mostWires))
-      (λ i l. sym (number-at mostWires (gatesOf f) i))
 
   pub file-totals : row ≡ totalsOf f
   unfolding totalsOf

@@ -1,5 +1,5 @@
 -- What a wire holds as the code keeps it, one number: twice the mask, and the flip. What a gate does to the state of each walk.
-use Prim.Native.Nat.{ℕ, suc, _+_, _*_, _%_, _^_}
+use Prim.Native.Nat.{ℕ, suc, _+_, _*_, _/_, _%_, _^_}
 use mathlib.Core.List.{List, [], _∷_}
 use lib.Bits.{bitXor}
 use lib.ListN.{getD, set}
@@ -7,7 +7,17 @@ use Rattle.numbers.specs.Bits.{dot}
 use Rattle.numbers.specs.Sums.{list}
 use Rattle.circuit.specs.declared.Gate.{Gate}
 use Rattle.circuit.specs.declared.Gate.the-variants.{Cnot, Phase, Inverter}
+use Rattle.circuit.specs.File.{wiresOf, gatesOf}
 use Rattle.running.specs.Run.{stepped, added, cnots, score, inverters}
+use Rattle.running.specs.Masks.{Held, held}
+use Rattle.running.specs.Groups.{groupTotal}
+
+-- mask and flip as one number, and back
+abbrev pub numberOf : Held → ℕ
+numberOf h = 2 * h .mask + h .flip
+
+abbrev pub heldOf : ℕ → Held
+heldOf n = held (n / 2) (n % 2)
 
 -- the numbers before the first gate, and the masks alone
 abbrev pub ownNumbers : ℕ → List ℕ
@@ -69,3 +79,10 @@ addMet (At n a) row = set row n ((getD row n 0 + a) % 65536)
 -- the sums at numbers: the numbers, and the totals so far
 abbrev pub sumStep : Gate → List ℕ × List ℕ → List ℕ × List ℕ
 sumStep g s = (numbersAfter g (s .0), addMet (met g (s .0)) (s .1))
+
+-- a file's totals, group by group, each at its number; ten wires have twice 2^10 such numbers
+abbrev pub mostGroups : ℕ
+mostGroups = 2048
+
+unfoldable pub totalsOf : List ℕ → List ℕ
+totalsOf f = list mostGroups (λ n. groupTotal (wiresOf f) (gatesOf f) (heldOf n))

@@ -2,13 +2,11 @@
 use refusal::Refusal;
 
 mod counter;
-mod grouper;
 mod runner;
 mod walker;
 
 pub use counter::count;
 pub use counter::scored;
-pub use grouper::sum_groups;
 pub use runner::run;
 pub use walker::held_at;
 pub use walker::invert;
@@ -20,9 +18,6 @@ pub const WIRES: usize = 10;
 
 // As many masks as that many wires can hold: 2^10.
 pub const MASKS: usize = 1024;
-
-// As many groups: a mask with a flip or without (02 §12).
-pub const GROUPS: usize = 2048;
 
 // A run's answer.
 pub enum Ran {

@@ -3,29 +3,17 @@ use Rattle.coefficients.proofs.Summaries.{put-weighed}
 use Rattle.coefficients.proofs.summary.put_coefficients.Statement.{statement}
 use Rattle.coefficients.proofs.summary.put_coefficients.Tie as tie
 
-abbrev weighs : tie.After-slice-known5 → tie.After-weigh
+abbrev weighs : tie.After-slice-known4 → tie.After-weigh
 weighs c = c .before .before
 
-abbrev sums : tie.After-weigh → tie.After-constant-of
-sums c = c .before .before
+abbrev gathers : tie.After-weigh → tie.After-gather
+gathers c = c .before .before .before .before .before
 
-abbrev gathers : tie.After-constant-of → tie.After-gather
-gathers c = c .before .before .before .before
-
-abbrev unflips : tie.After-gather → tie.After-unflip
-unflips c = c .before .before .before .before
-
-abbrev start : tie.After-unflip → tie.Start
-start c = c .before .before .before .before .before
-
-unflip-requires : tie.Need-unflip-requires
-unflip-requires c κs = search needs
+abbrev start : tie.After-gather → tie.Start
+start c = c .before .before .before .before
 
 gather-requires : tie.Need-gather-requires
 gather-requires c κs = search needs
-
-constant-of-requires : tie.Need-constant-of-requires
-constant-of-requires c κs = search needs
 
 weigh-requires : tie.Need-weigh-requires
 weigh-requires c κs = search needs
@@ -39,22 +27,9 @@ same-length-2 c = search needs
 returns : tie.Need-returns
 returns c =
     let weighed = weighs c in
-    let summed = sums weighed in
-    let gathered = gathers summed in
-    let unflipped = unflips gathered in
-    let s = start unflipped in
-    let a = s .args in
-    λ n l.
-    put-weighed n (a .totals .now) (a .signed .now) _ _ (a .row .now) _ (summed .constant-of .result) (s .pre .0) l (unflipped .unflip .ensures) (gathered .gather .ensures) (summed .constant-of .ensures) (weighed .weigh .ensures)
+    let gathered = gathers weighed in
+    let a = start gathered .args in
+    λ n l. put-weighed n (a .signed .now) _ (a .row .now) _ (a .constant) (gathered .gather .ensures n l) (weighed .weigh .ensures)
 
 pub put-coefficients-spec : {M : Type 1} → statement M
-put-coefficients-spec =
-    tie.close
-    (tie.spec
-    unflip-requires
-    gather-requires
-    constant-of-requires
-    weigh-requires
-    same-length
-    same-length-2
-    returns)
+put-coefficients-spec = tie.close (tie.spec gather-requires weigh-requires same-length same-length-2 returns)

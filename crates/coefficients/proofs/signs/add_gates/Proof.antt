@@ -6,17 +6,19 @@ use lib.ListN.{length}
 use Rattle.circuit.specs.Bytes.{Bytes}
 use Rattle.circuit.proofs.Callers.{GoodFile, good-file}
 use Rattle.circuit.proofs.Walks.{Walk, walk-starts, walk-goes-on, walk-ends}
-use Rattle.running.specs.Working.{met, sumStep}
+use Rattle.running.specs.Working.{met}
 use Rattle.running.proofs.Masks.{length-after}
-use Rattle.running.proofs.Stepping.{length-added, sum-stepped}
-use Rattle.running.proofs.grouper.add_gates.Statement.{statement}
-use Rattle.running.proofs.grouper.add_gates.Tie as tie
+use Rattle.coefficients.specs.Working.{signStep}
+use Rattle.coefficients.proofs.Signing.{length-signed, sign-stepped}
+use Rattle.coefficients.proofs.signs.add_gates.Statement.{statement}
+use Rattle.coefficients.proofs.signs.add_gates.Tie as tie
 
 abbrev Inv-loop : tie.InvT-loop
-Inv-loop file gates held₀ totals₀ i₀ held totals i = Walk sumStep file (held₀, totals₀) (held, totals) i × (length held ≡ length held₀) × (length totals ≡ length totals₀)
+Inv-loop file gates held₀ signed₀ constant₀ i₀ held signed constant i =
+    Walk signStep file (held₀, signed₀, 0) (held, signed, constant) i × (length held ≡ length held₀) × (length signed ≡ length signed₀)
 
 abbrev μ-loop : tie.MeasureT-loop
-μ-loop file gates held₀ totals₀ i₀ held totals i = gates - i
+μ-loop file gates held₀ signed₀ constant₀ i₀ held signed constant i = gates - i
 
 abbrev start : tie.At-loop Inv-loop μ-loop → tie.Start Inv-loop μ-loop
 start c = c .before .before .before .before
@@ -27,8 +29,8 @@ taken c = c .before .before .before
 abbrev loop : tie.After-good-gate Inv-loop μ-loop → tie.At-loop Inv-loop μ-loop
 loop c = c .before .before
 
-abbrev done : tie.After-slice-known4 Inv-loop μ-loop → tie.After-add-gate Inv-loop μ-loop
-done c = c .before .before .before .before
+abbrev done : tie.After-wrapping-add-u16 Inv-loop μ-loop → tie.After-add-gate Inv-loop μ-loop
+done c = c .before .before .before .before .before
 
 bytes : (c : tie.At-loop Inv-loop μ-loop) → Bytes (start c .args .file .now)
 bytes c j = c .before .before .before .shared-slice-known .given j .fits
@@ -37,13 +39,16 @@ good : (c : tie.At-loop Inv-loop μ-loop) → GoodFile (start c .args .file .now
 good c = good-file 0 (start c .args .file .now) (start c .pre .0)
 
 loop-holds : tie.Need-loop-holds Inv-loop μ-loop
-loop-holds c = let a = c .before .before .before .args in (walk-starts sumStep (a .file .now) (a .held .now, a .totals .now), refl, refl)
+loop-holds c = let a = c .before .before .before .args in (walk-starts signStep (a .file .now) (a .held .now, a .signed .now, 0), refl, refl)
 
 good-gate-requires : tie.Need-good-gate-requires Inv-loop μ-loop
 good-gate-requires c κs = search needs
 
 add-gate-requires : tie.Need-add-gate-requires Inv-loop μ-loop
 add-gate-requires c κs = search needs
+
+wrapping-add-u16-requires : tie.Need-wrapping-add-u16-requires Inv-loop μ-loop
+wrapping-add-u16-requires c κs = search needs
 
 add-i : tie.Need-add-i Inv-loop μ-loop
 add-i c = omega arith
@@ -57,14 +62,16 @@ loop-again c =
     let got = taken add in
     let at = loop got in
     let a = start at .args in
+    let l = at .loop in
     let g = got .good-gate .result in
     let held = add .add-gate .last .1 .0 in
-    let totals = add .add-gate .last .1 .1 .0 in
-    let e = add .add-gate .ensures in (
-      walk-goes-on (a .file .now) (bytes at) (good at) (at .loop .i) g (omega (arith, start at .pre .1)) (got .good-gate .ensures) sumStep (a .held .now, a .totals .now) (at .loop .held, at .loop .totals) (held, totals)
-          (sum-stepped g (at .loop .held) (at .loop .totals) held totals (e .0) (e .1)) (at .loop .inv .0),
-      ap length (e .0) ∙ length-after g (at .loop .held) ∙ at .loop .inv .1,
-      ap length (e .1) ∙ length-added (met g (at .loop .held)) (at .loop .totals) ∙ at .loop .inv .2,
+    let signed = add .add-gate .last .1 .1 .0 in
+    let e = add .add-gate .ensures in
+    let sum = c .wrapping-add-u16 in (
+      walk-goes-on (a .file .now) (bytes at) (good at) (l .i) g (omega (arith, start at .pre .1)) (got .good-gate .ensures) signStep (a .held .now, a .signed .now, 0) (l .held, l .signed, l .constant) (held, signed, sum .result)
+          (sign-stepped g (l .held) (l .signed) (l .constant) held signed (add .add-gate .result) (sum .result) e (sum .ensures)) (l .inv .0),
+      ap length (e .0) ∙ length-after g (l .held) ∙ l .inv .1,
+      ap length (e .1 .0) ∙ length-signed (met g (l .held)) (l .signed) ∙ l .inv .2,
     )
 
 same-length : tie.Need-same-length Inv-loop μ-loop
@@ -77,7 +84,8 @@ returns : tie.Need-returns Inv-loop μ-loop
 returns c =
     let at = c .before in
     let a = start at .args in
-    walk-ends (a .file .now) (bytes at) (good at) (at .loop .i) (omega (arith, start at .pre .1)) sumStep (a .held .now, a .totals .now) (at .loop .held, at .loop .totals) (at .loop .inv .0)
+    let l = at .loop in
+    walk-ends (a .file .now) (bytes at) (good at) (l .i) (omega (arith, start at .pre .1)) signStep (a .held .now, a .signed .now, 0) (l .held, l .signed, l .constant) (l .inv .0)
 
 pub add-gates-spec : {M : Type 1} → statement M
 add-gates-spec =
@@ -88,6 +96,7 @@ add-gates-spec =
     loop-holds
     good-gate-requires
     add-gate-requires
+    wrapping-add-u16-requires
     add-i
     loop-less
     loop-again

@@ -3,8 +3,8 @@ use mathlib.Core.Path.{sym, ap}
 use lib.ListN.{getD, set}
 use lib.Seq.{set-out}
 use borrow.Author.Needs.{needs}
-use Rattle.running.proofs.grouper.add_angle.Statement.{statement}
-use Rattle.running.proofs.grouper.add_angle.Tie as tie
+use Rattle.fold.proofs.totals.add_angle.Statement.{statement}
+use Rattle.fold.proofs.totals.add_angle.Tie as tie
 
 abbrev start : tie.After-wrapping-add-u16 → tie.Start
 start c = c .before .before .before .before

@@ -1,7 +1,7 @@
-use Rattle.running.proofs.Stepping.{cnot-adds, phase-adds, inverter-adds}
+use Rattle.fold.proofs.Summing.{cnot-adds, phase-adds, inverter-adds}
 use borrow.Author.Needs.{needs}
-use Rattle.running.proofs.grouper.add_gate.Statement.{statement}
-use Rattle.running.proofs.grouper.add_gate.Tie as tie
+use Rattle.fold.proofs.totals.add_gate.Statement.{statement}
+use Rattle.fold.proofs.totals.add_gate.Tie as tie
 
 abbrev crossing : tie.After-mix → tie.Start
 crossing c = c .before .before .before .before .before .before .before
