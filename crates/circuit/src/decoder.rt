@@ -54,7 +54,7 @@ fn high_bad(version: u16, w: u8, kind: u8, a: u8, b: u8, c: u8) -> bool
 }
 
 // Both. No branch depends on which of CNOT and phase it is: in a circuit that is hard to foretell. The kinds from 3 on are
-// apart because a version 1 file has none of them.
+// apart because a good version 1 file has none of them.
 pub(crate) fn is_bad(version: u16, w: u8, kind: u8, a: u8, b: u8, c: u8) -> bool
     ensures { λ r. ⌜ r ≡ bad version w kind a b c ⌝ }
 {

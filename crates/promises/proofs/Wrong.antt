@@ -1,4 +1,4 @@
--- 01, "These programs are to be shown unacceptable", as theorems over the contracts, each with the input that shows it.
+-- 01, "These programs are to be shown unacceptable", and two of 02 §12, as theorems over the contracts, each with the input that shows it.
 use Prim.Native.Nat.{ℕ, zero, suc, _<_, _∣_}
 use native.Mathlib.Nat.{dvd-refl, dvd-antisymm, le-of-dvd}
 use native.Mathlib.Decide.{ℕ-discrete, decDvd}

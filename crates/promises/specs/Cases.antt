@@ -1,4 +1,4 @@
--- 01, "Cases on each side": the cases marked (p), the built file of two variables, two on what folding keeps, and what "Listing" says of the program's inputs.
+-- 01, "Cases on each side": the cases marked (p), the built file of two variables, two on what folding keeps, what "Listing" says of the program's inputs, and seven of version 2 (02 §12).
 -- Each lends a slice that is just as long as the result.
 -- The scores are by 02 §2: "01's built files fall from 3 to 0 and from 8 to 7." The cases of version 2 are 02 §12's.
 use Prim.Native.Nat.{ℕ}
@@ -77,7 +77,7 @@ empty = fileOf 1 2 []
 abbrev pub threefold : ℕ → List ℕ
 threefold a = fileOf 1 2 (Phase 0 a ∷ Phase 1 a ∷ Cnot 0 1 ∷ Phase 1 a ∷ Cnot 0 1 ∷ [])
 
--- a circuit on 1 wire in version 2, and the empty one in either
+-- a circuit on 1 wire in version 2, and the empty one in version 1
 abbrev pub onOne : List Gate → List ℕ
 onOne gs = fileOf 2 1 gs
 

@@ -1,4 +1,4 @@
--- 01's groups and coefficients as they were before 02 §12: by masks alone, and 0 at 0. Version 1 files have these still; a fold that forgets flips would give them to version 2 files too.
+-- 01's groups and coefficients by masks alone, and 0 at 0. Version 1 files have these; a fold that forgets flips would give them to version 2 files too.
 use Prim.Native.Nat.{ℕ, zero, suc, _-_, _*_, _%_, _^_}
 use mathlib.Core.Path.{_≡_}
 use mathlib.Core.List.{List, [], _∷_, _++_}

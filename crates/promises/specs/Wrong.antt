@@ -1,4 +1,4 @@
--- 01, "How far every promise reaches": "These programs are to be shown unacceptable". What each does wrong, and what showing it means.
+-- 01, "How far every promise reaches": "These programs are to be shown unacceptable". What each does wrong, and what showing it means; two are of 02 §12.
 use Prim.Native.Nat.{ℕ, zero, suc}
 use mathlib.Core.Path.{_≡_}
 use mathlib.Core.Bool.{Bool, cond}

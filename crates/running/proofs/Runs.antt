@@ -1,4 +1,4 @@
--- A run's end: below 2^w, linear in the start, and reached from some start.
+-- A run's end: below 2^w, linear in the start but for start 0's end, and reached from some start.
 use Prim.Native.Nat.{ℕ, zero, suc, _+_, _*_, _%_, _^_, _<_}
 use native.Mathlib.Nat.{add-assoc, zero-add}
 use native.Mathlib.Omega.{arith}

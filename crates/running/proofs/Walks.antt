@@ -1,4 +1,4 @@
--- The walks over a list of gates come to what the definitions say: a run, a count, and the sums at masks.
+-- The walks over a list of gates come to what the definitions say: a run, a count, and the groups' totals, each at its number.
 use Prim.Native.Nat.{ℕ, suc, _+_, _*_, _%_, _^_, _<_}
 use native.Mathlib.Nat.{add-zero, zero-add, add-assoc, mul-one, mul-zero}
 use native.Mathlib.Decide.{ℕ-discrete}

@@ -1,4 +1,4 @@
-// Document 01, "Running, counting, folding": runs, counts, the masks and flips that the wires hold, and the groups that met them.
+// Document 01, "Running, counting, folding": runs, counts, and the masks and flips that the wires hold.
 use refusal::Refusal;
 
 mod counter;
