@@ -1385,6 +1385,33 @@ def inverters_section(rng):
     yield from full_of_inverters(rng)
 
 
+# Section decimals
+
+# The angle of a phase and the fraction listed, by hand: K of one to five digits at both ends, and D of each number of digits
+FRACTIONS = [
+    (0, "0*pi/1"), (1, "1*pi/32768"), (9, "9*pi/32768"), (10, "5*pi/16384"), (11, "11*pi/32768"), (99, "99*pi/32768"),
+    (100, "25*pi/8192"), (101, "101*pi/32768"), (999, "999*pi/32768"), (1001, "1001*pi/32768"),
+    (9999, "9999*pi/32768"), (10001, "10001*pi/32768"), (65533, "65533*pi/32768"), (65534, "32767*pi/16384"),
+    (65535, "65535*pi/32768"), (32, "1*pi/1024"), (64, "1*pi/512"), (256, "1*pi/128"), (512, "1*pi/64"),
+    (2048, "1*pi/16"), (4096, "1*pi/8"), (16384, "1*pi/2"), (32768, "1*pi/1"), (49152, "3*pi/2"), (65504, "2047*pi/1024"),
+]
+
+
+def decimals_section(rng):
+    """Fractions by hand, every odd K, and every number of a refused line. K of a listing is odd or 0; section listing has every
+    W, wire and D."""
+    for angle, fraction in FRACTIONS:
+        assert oracle.gate_line(Phase(0, angle)) == f"u1({fraction}) q[0];\n", fraction
+        yield from listing_rooms(f"u1({fraction})", 1, [Phase(0, angle)], rooms=(0, 1, 5, -1))
+    for first in range(1, 65536, 4096):
+        file = encode(1, [Phase(0, angle) for angle in range(first, first + 4096, 2)])
+        yield listing(f"every numerator from {first} to {first + 4094}", file, False, 60000)
+    for number in range(256):
+        length = len(oracle.refused_line(number))
+        for extra in (0, 5, -1):
+            yield refused_line(f"room {extra:+}", number, length + extra)
+
+
 # Section paper
 
 def paper_section(rng):
@@ -1475,7 +1502,7 @@ SECTIONS = {
     "build": (103, build_section), "fold": (104, fold_section), "verdict": (105, verdict_section),
     "listing": (106, listing_section), "table": (107, table_section), "oracle": (108, oracle_section),
     "printout": (109, printout_section), "reasons": (110, reasons_section), "scores": (111, scores_section),
-    "inverters": (112, inverters_section),
+    "inverters": (112, inverters_section), "decimals": (113, decimals_section),
 }
 
 

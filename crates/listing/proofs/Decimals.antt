@@ -1,10 +1,12 @@
--- 01, "Decimal, no leading zeros": a number's text says the number, starts with no zero but for 0 itself, and is short.
-use Prim.Native.Nat.{ℕ, zero, suc, _+_, _-_, _*_, _/_, _%_, _<_, _≤_}
+-- 01, "Decimal, no leading zeros": a number's text says the number, starts with no zero but for 0 itself, is its digits from the highest power of ten on, and is short.
+use Prim.Native.Nat.{ℕ, zero, suc, _+_, _-_, _*_, _/_, _%_, _^_, _<_, _≤_}
 use native.Mathlib.Decide.{decLt}
-use native.Mathlib.Nat.{div-div-eq-div-mul}
+use native.Mathlib.Nat.{div-div-eq-div-mul, one-le-pow}
 use native.Mathlib.Omega.{arith}
 use mathlib.Core.Path.{_≡_, refl, sym, ap, _∙_}
-use mathlib.Core.List.{List, [], _∷_, _++_}
+use mathlib.Core.Bool.{cond}
+use mathlib.Core.List.{List, [], _∷_, _++_, append-assoc}
+use lib.Dec.{ltb}
 use lib.ListN.{length, getD, length-append, List·getD-append}
 use borrow.Author.Tests.{lt-ltb, le-ltb}
 use Rattle.listing.specs.Text.{digit, decimalFrom, decimal}
@@ -73,58 +75,70 @@ pub no-leading-zero : (n : ℕ) → 0 < n → 48 < getD (decimal n) 0 0
 no-leading-zero = by-digits (λ n. 0 < n → 48 < getD (decimal n) 0 0) (λ n h k. rw (decimal-small n h) (omega arith))
     (λ n h ih k. rw (decimal-more n h, List·getD-append (decimal (n / 10)) (digit (n % 10)) 0 0 (decimal-some (n / 10))) (ih (omega arith)))
 
--- numbers of one to five digits, digit by digit
-pub decimal-one : (n : ℕ) → n < 10 → decimal n ≡ (48 + n % 10) ∷ []
-decimal-one n h = let e : n % 10 ≡ n = omega arith in rw e (decimal-small n h)
+-- the digits of a number but 0, and none of 0
+abbrev shown : ℕ → List ℕ
+shown n = cond (ltb 0 n) (decimal n) []
 
-longer : (n : ℕ) (ds : List ℕ) → 10 ≤ n → decimal (n / 10) ≡ ds → decimal n ≡ ds ++ digit (n % 10)
-longer n ds h e = decimal-more n h ∙ ap (_++ digit (n % 10)) e
+-- their last
+abbrev pub leading : ℕ → List ℕ
+leading n = cond (ltb 0 n) (digit (n % 10)) []
 
-pub decimal-two : (n : ℕ) → 10 ≤ n → n < 100 → decimal n ≡ (48 + n / 10 % 10) ∷ (48 + n % 10) ∷ []
-decimal-two n h l = longer n _ h (decimal-one (n / 10) (omega arith))
+pub leading-none : (n : ℕ) → n ≤ 0 → [] ≡ leading n
+leading-none n h = rw (le-ltb 0 n h)
 
-pub decimal-three : (n : ℕ) → 100 ≤ n → n < 1000 → decimal n ≡ (48 + n / 100 % 10) ∷ (48 + n / 10 % 10) ∷ (48 + n % 10) ∷ []
-decimal-three n h l = longer n _ (omega arith) (rw (div-div-eq-div-mul n 10 10) at (decimal-two (n / 10) (omega arith) (omega arith)))
+pub leading-some : (n : ℕ) → 0 < n → digit (n % 10) ≡ leading n
+leading-some n h = rw (lt-ltb 0 n h)
 
-pub decimal-four : (n : ℕ) → 1000 ≤ n → n < 10000 → decimal n ≡ (48 + n / 1000 % 10) ∷ (48 + n / 100 % 10) ∷ (48 + n / 10 % 10) ∷ (48 + n % 10) ∷ []
-decimal-four n h l = longer n _ (omega arith) (rw (div-div-eq-div-mul n 10 100, div-div-eq-div-mul n 10 10) at (decimal-three (n / 10) (omega arith) (omega arith)))
+-- what stands before the last digit
+before-last : (n : ℕ) → decimal n ≡ shown (n / 10) ++ digit (n % 10)
+before-last n = by (decLt n 10)
+  where
+    by : Dec (n < 10) → decimal n ≡ shown (n / 10) ++ digit (n % 10)
+    by (yes h) = let e : n % 10 ≡ n = omega arith in rw (le-ltb 0 (n / 10) (omega arith), e) (decimal-small n h)
+    by (no h) = rw (lt-ltb 0 (n / 10) (omega arith)) (decimal-more n (omega arith))
 
-pub decimal-five : (n : ℕ) → 10000 ≤ n → n < 100000 → decimal n ≡ (48 + n / 10000 % 10) ∷ (48 + n / 1000 % 10) ∷ (48 + n / 100 % 10) ∷ (48 + n / 10 % 10) ∷ (48 + n % 10) ∷ []
-decimal-five n h l = longer n _ (omega arith) (rw (div-div-eq-div-mul n 10 1000, div-div-eq-div-mul n 10 100, div-div-eq-div-mul n 10 10) at (decimal-four (n / 10) (omega arith) (omega arith)))
+shown-last : (n : ℕ) → shown n ≡ shown (n / 10) ++ leading n
+shown-last n = by (decLt 0 n)
+  where
+    by : Dec (0 < n) → shown n ≡ shown (n / 10) ++ leading n
+    by (yes h) = rw (lt-ltb 0 n h) (before-last n)
+    by (no h) = rw (le-ltb 0 n (omega arith), le-ltb 0 (n / 10) (omega arith))
 
--- a number's digits as they are written, the last first, as far as it has them
-module _ (n : ℕ) {e : ℕ} (last : e ≡ 48 + n % 10) where
-  pub one-written : n / 10 ≡ 0 → e ∷ [] ≡ decimal n
-  one-written h = cc (decimal-one n (omega arith))
+-- the digit at the power p, between those above it and those below
+digit-at : (n p : ℕ) (below : List ℕ) → shown (n / p) ++ below ≡ shown (n / (p * 10)) ++ (leading (n / p) ++ below)
+digit-at n p below =
+    ap (_++ below) (shown-last (n / p))
+    ∙ append-assoc (shown (n / p / 10)) (leading (n / p)) below
+    ∙ ap (λ (m : ℕ). shown m ++ (leading (n / p) ++ below)) (div-div-eq-div-mul n p 10)
 
-  module _ {d : ℕ} (second : d ≡ 48 + n / 10 % 10) (some : n / 10 ≡ 0 → ⊥) where
-    pub two-written : n / 100 ≡ 0 → d ∷ e ∷ [] ≡ decimal n
-    two-written h = cc (decimal-two n (omega arith) (omega arith))
-
-    module _ {c : ℕ} (third : c ≡ 48 + n / 100 % 10) (more : n / 100 ≡ 0 → ⊥) where
-      pub three-written : n / 1000 ≡ 0 → c ∷ d ∷ e ∷ [] ≡ decimal n
-      three-written h = cc (decimal-three n (omega arith) (omega arith))
-
-      module _ {b : ℕ} (fourth : b ≡ 48 + n / 1000 % 10) (many : n / 1000 ≡ 0 → ⊥) where
-        pub four-written : n / 10000 ≡ 0 → b ∷ c ∷ d ∷ e ∷ [] ≡ decimal n
-        four-written h = cc (decimal-four n (omega arith) (omega arith))
-
-        pub five-written : {a : ℕ} → a ≡ 48 + n / 10000 % 10 → (n / 10000 ≡ 0 → ⊥) → n < 65536 → a ∷ b ∷ c ∷ d ∷ e ∷ [] ≡ decimal n
-        five-written fifth h k = cc (decimal-five n (omega arith) (omega arith))
+-- at most five digits, the highest first
+pub decimal-digits : (n : ℕ) → n < 100000 → decimal n ≡ leading (n / 10000) ++ (leading (n / 1000) ++ (leading (n / 100) ++ (leading (n / 10) ++ digit (n % 10))))
+decimal-digits n h = before-last n ∙ digit-at n 10 _ ∙ digit-at n 100 _ ∙ digit-at n 1000 _ ∙ digit-at n 10000 _ ∙ rw (le-ltb 0 (n / 100000) (omega arith))
 
 pub one-digit : (n : ℕ) → n < 10 → length (decimal n) ≡ 1
 one-digit n h = ap length (decimal-small n h)
 
--- one digit more than the number without its last
-one-longer : (m n : ℕ) → length (decimal (n / 10)) ≤ m → length (decimal n) ≤ suc m
-one-longer m n h = by (decLt n 10)
+one-longer : (n : ℕ) → 10 ≤ n → length (decimal n) ≡ length (decimal (n / 10)) + 1
+one-longer n h = ap length (decimal-more n h) ∙ length-append (decimal (n / 10)) (digit (n % 10))
+
+-- how many digits a number has, by the powers of ten
+digits-least : (k n : ℕ) → 10 ^ k ≤ n → k < length (decimal n)
+digits-least zero n h = decimal-some n
+digits-least (suc k) n h = omega (arith, one-longer n (omega (arith, one-le-pow k 10 (omega arith))), digits-least k (n / 10) (omega arith))
+
+digits-most : (k n : ℕ) → n < 10 ^ suc k → length (decimal n) ≤ suc k
+digits-most zero n h = omega (arith, one-digit n h)
+digits-most (suc k) n h = by (decLt n 10) (digits-most k (n / 10))
   where
-    by : Dec (n < 10) → length (decimal n) ≤ suc m
-    by (yes l) = rw (decimal-small n l) (omega arith)
-    by (no l) = rw (decimal-more n (omega arith)) (omega (arith, length-append (decimal (n / 10)) (digit (n % 10))))
+    by : Dec (n < 10) → (n / 10 < 10 ^ suc k → length (decimal (n / 10)) ≤ suc k) → length (decimal n) ≤ suc (suc k)
+    by (yes l) ih = omega (arith, one-digit n l)
+    by (no l) ih = omega (arith, one-longer n (omega arith), ih (omega arith))
+
+pub digits-exactly : (k n : ℕ) → 10 ^ k ≤ n → n < 10 ^ suc k → suc k ≡ length (decimal n)
+digits-exactly k n h l = omega (arith, digits-least k n h, digits-most k n l)
 
 pub two-digits : (n : ℕ) → n < 100 → length (decimal n) ≤ 2
-two-digits n h = one-longer 1 n (omega (arith, one-digit (n / 10) (omega arith)))
+two-digits = digits-most 1
 
 pub five-digits : (n : ℕ) → n < 100000 → length (decimal n) ≤ 5
-five-digits n h = one-longer 4 n (one-longer 3 (n / 10) (one-longer 2 (n / 10 / 10) (two-digits (n / 10 / 10 / 10) (omega arith))))
+five-digits = digits-most 4

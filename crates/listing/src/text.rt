@@ -1,11 +1,13 @@
 // Fixed words and numbers, written as text. Each writer answers the place behind what it wrote.
 use crate::words::CLOSING;
 ghost use mathlib.Core.Path.{_≡_};
-ghost use mathlib.Core.List.{_++_};
-ghost use Prim.Native.Nat.{_+_, _/_, _%_, _≤_};
+ghost use mathlib.Core.Bool.{cond};
+ghost use mathlib.Core.List.{[], _++_};
+ghost use Prim.Native.Nat.{_+_, _%_, _≤_};
+ghost use lib.Dec.{ltb};
 ghost use lib.ListN.{length};
 ghost use Rattle.circuit.specs.Working.{Wrote};
-ghost use Rattle.listing.specs.Text.{decimal};
+ghost use Rattle.listing.specs.Text.{digit, decimal};
 ghost use Rattle.listing.specs.Words.{words};
 
 pub(crate) fn put_text(text: &[u8], out: &mut [u8], at: usize) -> usize
@@ -18,14 +20,6 @@ pub(crate) fn put_text(text: &[u8], out: &mut [u8], at: usize) -> usize
         i += 1;
     }
     at + i
-}
-
-// A number's last digit; `tenth` is the number without it.
-fn digit(n: u16, tenth: u16) -> u8
-    requires { ⌜ tenth ≡ n / 10 ⌝ }
-    ensures { λ r. ⌜ r ≡ 48 + n % 10 ⌝ }
-{
-    48 + ((n - 10 * tenth) as u8)
 }
 
 // How many digits a number has.
@@ -47,33 +41,36 @@ pub(crate) fn digits(n: u16) -> usize
     5
 }
 
-// A number in decimal, without leading zeros.
+// A number's last digit.
+fn put_digit(n: u16, out: &mut [u8], at: usize) -> usize
+    requires { ⌜ at + length (digit (n % 10)) ≤ length (now out) ⌝ }
+    ensures { λ r. ⌜ Wrote (digit (n % 10)) at (now (out .entry)) r (now (out .exit)) ⌝ }
+{
+    out[at] = 48 + ((n % 10) as u8);
+    at + 1
+}
+
+// The same of a number but 0. Of 0 nothing: it would be a leading zero.
+fn put_leading(n: u16, out: &mut [u8], at: usize) -> usize
+    requires { ⌜ at + length (cond (ltb 0 n) (digit (n % 10)) []) ≤ length (now out) ⌝ }
+    ensures { λ r. ⌜ Wrote (cond (ltb 0 n) (digit (n % 10)) []) at (now (out .entry)) r (now (out .exit)) ⌝ }
+{
+    if n == 0 {
+        return at;
+    }
+    put_digit(n, out, at)
+}
+
+// A number in decimal. The powers of ten are tried from the highest on: the first that the number reaches has its first digit.
 fn put_decimal(n: u16, out: &mut [u8], at: usize) -> usize
     requires { ⌜ at + length (decimal n) ≤ length (now out) ⌝ }
     ensures { λ r. ⌜ Wrote (decimal n) at (now (out .entry)) r (now (out .exit)) ⌝ }
 {
-    let tens = n / 10;
-    let e = digit(n, tens);
-    if tens == 0 {
-        return put_text(&[e], out, at);
-    }
-    let hundreds = n / 100;
-    let d = digit(tens, hundreds);
-    if hundreds == 0 {
-        return put_text(&[d, e], out, at);
-    }
-    let thousands = n / 1000;
-    let c = digit(hundreds, thousands);
-    if thousands == 0 {
-        return put_text(&[c, d, e], out, at);
-    }
-    let myriads = n / 10000;
-    let b = digit(thousands, myriads);
-    if myriads == 0 {
-        return put_text(&[b, c, d, e], out, at);
-    }
-    let a = digit(myriads, 0);
-    put_text(&[a, b, c, d, e], out, at)
+    let at = put_leading(n / 10000, out, at);
+    let at = put_leading(n / 1000, out, at);
+    let at = put_leading(n / 100, out, at);
+    let at = put_leading(n / 10, out, at);
+    put_digit(n, out, at)
 }
 
 // A fixed word, then a number.
