@@ -75,11 +75,11 @@ pub no-leading-zero : (n : ℕ) → 0 < n → 48 < getD (decimal n) 0 0
 no-leading-zero = by-digits (λ n. 0 < n → 48 < getD (decimal n) 0 0) (λ n h k. rw (decimal-small n h) (omega arith))
     (λ n h ih k. rw (decimal-more n h, List·getD-append (decimal (n / 10)) (digit (n % 10)) 0 0 (decimal-some (n / 10))) (ih (omega arith)))
 
--- the digits of a number but 0, and none of 0
+-- the digits of a number but 0; of 0 none
 abbrev shown : ℕ → List ℕ
 shown n = cond (ltb 0 n) (decimal n) []
 
--- their last
+-- the last of them: of n / 10, n / 100 and so on, what stands at that power of ten in n
 abbrev pub leading : ℕ → List ℕ
 leading n = cond (ltb 0 n) (digit (n % 10)) []
 
@@ -89,7 +89,7 @@ leading-none n h = rw (le-ltb 0 n h)
 pub leading-some : (n : ℕ) → 0 < n → digit (n % 10) ≡ leading n
 leading-some n h = rw (lt-ltb 0 n h)
 
--- what stands before the last digit
+-- the last digit, and what stands before it
 before-last : (n : ℕ) → decimal n ≡ shown (n / 10) ++ digit (n % 10)
 before-last n = by (decLt n 10)
   where

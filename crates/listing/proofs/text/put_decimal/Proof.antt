@@ -8,7 +8,7 @@ use borrow.Author.Needs.{needs}
 use Rattle.listing.proofs.text.put_decimal.Statement.{statement}
 use Rattle.listing.proofs.text.put_decimal.Tie as tie
 
--- where each digit was put, from the highest on
+-- where each digit has been put, from the highest on
 abbrev start : tie.After-put-leading → tie.Start
 start c = c .before .before .before
 
