@@ -61,7 +61,7 @@ fn put_leading(n: u16, out: &mut [u8], at: usize) -> usize
     put_digit(n, out, at)
 }
 
-// A number in decimal, without leading zeros. The powers of ten are tried from the highest on; the first that it reaches has its first digit.
+// A number in decimal, without leading zeros: its first digit is at the highest power of ten that it reaches.
 fn put_decimal(n: u16, out: &mut [u8], at: usize) -> usize
     requires { ⌜ at + length (decimal n) ≤ length (now out) ⌝ }
     ensures { λ r. ⌜ Wrote (decimal n) at (now (out .entry)) r (now (out .exit)) ⌝ }
