@@ -13,6 +13,7 @@ use lib.Pow.{pow-add}
 use Rattle.numbers.specs.Bits.{bit}
 use Rattle.numbers.specs.Sums.{sum}
 use Rattle.numbers.specs.Turn.{difference}
+use Rattle.numbers.proofs.Search.{Lowest}
 use Rattle.refusal.specs.Checks.{passed, outcome}
 use Rattle.table.specs.Table.{valueAt}
 use Rattle.circuit.specs.Gates.{bytesOf, gatesFrom}
@@ -29,7 +30,7 @@ use Rattle.verdict.specs.declared.Compared.{Compared}
 use Rattle.verdict.specs.declared.Compared.the-variants.{Found}
 use Rattle.verdict.specs.Verdicts.{Side, circuit, ideal, verdict, Agree}
 use Rattle.verdict.specs.Judging.{Compares, Judges}
-use Rattle.verdict.proofs.Lowest.{Lowest, lowest-part, verdict-found}
+use Rattle.verdict.proofs.Lowest.{lowest-part, verdict-found}
 use Rattle.verdict.proofs.Callers.{compare-gives, compare-passes, judge-gives, judge-passes}
 use Rattle.promises.specs.Wrong.{Unacceptable, comparing, judging, verdictAmong, TriesFirst, JudgesFirst}
 use Rattle.promises.proofs.Demand3.{split-state, construction-agrees}

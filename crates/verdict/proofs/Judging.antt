@@ -5,40 +5,26 @@ use native.Mathlib.Numerals.{add-one}
 use native.Mathlib.Decide.{decLt}
 use native.Mathlib.Omega.{arith}
 use mathlib.Core.Path.{_≡_, refl, sym, ap, ap₂, _∙_}
-use mathlib.Core.Bool.{true, false}
 use lib.Bits.{bitXor}
 use lib.Count.{ones}
-use lib.Dec.{eqb}
 use lib.Pow.{pow-lt}
-use borrow.Author.Tests.{lt-ltb, le-ltb, eq-eqb, eqb-true, not-false}
+use borrow.Author.Tests.{lt-ltb, le-ltb}
 use Rattle.numbers.specs.Bits.{bit}
 use Rattle.numbers.specs.Sums.{sumOf}
 use Rattle.numbers.specs.Search.{least}
+use Rattle.numbers.specs.Working.{unlike}
 use Rattle.numbers.specs.Turn.{difference}
 use Rattle.numbers.proofs.Sums.{sumOf-ext}
 use Rattle.numbers.proofs.Lists.{list-ext}
 use Rattle.numbers.proofs.Digits.{by-bits}
+use Rattle.numbers.proofs.Search.{Lowest, lowest-map, unlike-found}
 use Rattle.running.specs.Masks.{mostWires}
 use Rattle.coefficients.specs.Coefficients.{listedStart}
 use Rattle.verdict.specs.declared.Verdict.the-variants.{Same, Different}
 use Rattle.verdict.specs.Verdicts.{Side, verdictAt, verdict, differences}
-use Rattle.verdict.specs.Working.{Summary, unlike, lowestPlace, endOf, judgedAt, judged}
-use Rattle.verdict.proofs.Lowest.{Lowest, lowest-one, lowest-map, lowest-found, verdict-found}
+use Rattle.verdict.specs.Working.{Summary, lowestPlace, endOf, judgedAt, judged}
+use Rattle.verdict.proofs.Lowest.{verdict-found}
 use Rattle.verdict.proofs.Scanning.{Summed, scan-finds, scan-phase}
-
--- of two rows of numbers, the first place where they differ
-module _ (f g : ℕ → ℕ) (n : ℕ) where
-  abbrev Alike : ℕ → Type 0
-  Alike k = f k ≡ g k
-
-  pub unlike-found : Lowest Alike n (least (unlike f g) n 0)
-  unlike-found = lowest-found (unlike f g) Alike (λ k e. eqb-true (f k) (g k) (not-false (eqb (f k) (g k)) e)) apart n
-    where
-      apart : (k : ℕ) → unlike f g k ≡ true → Alike k → ⊥
-      apart k t e = let z : false ≡ true = rw (eq-eqb (f k) (g k) e) at t in let y : _≡_ {A = ℕ} 0 1 = cc in omega arith
-
-  pub unlike-least : (p : ℕ) → Lowest Alike n p → p ≡ least (unlike f g) n 0
-  unlike-least p l = lowest-one Alike n p (least (unlike f g) n 0) l unlike-found
 
 -- one bit more
 pub end-next : (ends : ℕ → ℕ) (state end i r : ℕ) → end ≡ endOf i ends state → r ≡ bit state i * ends (i + 1) → bitXor end r ≡ endOf (i + 1) ends state

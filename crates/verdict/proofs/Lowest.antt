@@ -1,41 +1,15 @@
--- What `least` finds: the lowest number at which a property fails; and what a verdict says of every start.
+-- What a verdict says of every start: the search finds the lowest one at which the sides part.
 use Prim.Native.Nat.{ℕ, _^_, _<_, _≤_}
 use native.Mathlib.Decide.{ℕ-discrete, decLt}
 use native.Mathlib.Omega.{arith}
 use mathlib.Core.Path.{_≡_, sym, ap, subst, _∙_}
-use mathlib.Core.Bool.{Bool, true, false}
+use mathlib.Core.Bool.{true, false}
 use borrow.Author.Tests.{lt-ltb, le-ltb, eq-eqb, ne-eqb}
 use Rattle.numbers.specs.Search.{least}
-use Rattle.numbers.proofs.Search.{least-found}
+use Rattle.numbers.proofs.Search.{Lowest, lowest-one, lowest-found}
 use Rattle.verdict.specs.declared.Verdict.the-variants.{Same, Different}
 use Rattle.numbers.specs.Turn.{difference}
 use Rattle.verdict.specs.Verdicts.{Side, part, verdictAt, verdict, Agree, Named}
-
--- p is the lowest below n at which A fails, or n where it holds at all of them
-pub record Lowest (A : ℕ → Type 0) (n p : ℕ) : Type 0 where
-  pub within : p ≤ n
-  pub before : (k : ℕ) → k < p → A k
-  pub there : p < n → A p → ⊥
-
--- there is no second
-pub lowest-one : (A : ℕ → Type 0) (n p q : ℕ) → Lowest A n p → Lowest A n q → p ≡ q
-lowest-one A n p q x y = by (decLt p q) (decLt q p)
-  where
-    by : Dec (p < q) → Dec (q < p) → p ≡ q
-    by (yes h) d = absurd (x .there (omega (arith, y .within)) (y .before p h))
-    by (no h) (yes k) = absurd (y .there (omega (arith, x .within)) (x .before q k))
-    by (no h) (no k) = omega arith
-
--- the same for a property that holds of the same numbers below n
-pub lowest-map : (A B : ℕ → Type 0) (n p : ℕ) → ((k : ℕ) → k < n → A k → B k) → ((k : ℕ) → k < n → B k → A k) → Lowest A n p → Lowest B n p
-lowest-map A B n p f g l =
-    record { within = l .within; before = λ k h. f k (omega (arith, l .within)) (l .before k h); there = λ h b. l .there h (g p h b) }
-
--- the definition finds it
-pub lowest-found : (test : ℕ → Bool) (A : ℕ → Type 0) → ((k : ℕ) → test k ≡ false → A k) → ((k : ℕ) → test k ≡ true → A k → ⊥) → (n : ℕ) → Lowest A n (least test n 0)
-lowest-found test A holds fails n =
-    let r = least-found test n 0 in
-    record { within = omega (arith, r .most); before = λ k h. holds k (r .before k (omega arith) h); there = λ h. fails (least test n 0) (r .there (omega arith)) }
 
 module _ (a b : Side) where
   agree : (x : ℕ) → part a b x ≡ false → Agree a b x

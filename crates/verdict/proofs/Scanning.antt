@@ -15,9 +15,9 @@ use Rattle.numbers.proofs.Sums.{ℕ-adds, sumOf-ext, sumOf-split}
 use Rattle.numbers.proofs.Subsets.{subset-self, subset-above, sum-zero}
 use Rattle.numbers.proofs.Turns.{≈-of, ≈-sym, ≈-add, ≈-refl, ≈-cancel, ≈-small, _≈∙_}
 use Rattle.numbers.proofs.Digits.{by-bits}
+use Rattle.numbers.proofs.Search.{Lowest}
 use Rattle.coefficients.specs.Coefficients.{listedStart}
 use Rattle.verdict.specs.Verdicts.{Side, Agree}
-use Rattle.verdict.proofs.Lowest.{Lowest}
 
 -- a side whose phase is the polynomial of its coefficients, and whose ends respect exclusive or but for start 0's
 pub record Summed (w : ℕ) (a : Side) (c : ℕ → ℕ) : Type 0 where

@@ -1,14 +1,15 @@
 -- Two summaries judged by their numbers alone; the laws show that this is the verdict on their sides.
 use Prim.Native.Nat.{ℕ, suc, _+_, _*_, _%_, _^_, _≤_, min}
-use mathlib.Core.Bool.{Bool, not, cond}
+use mathlib.Core.Bool.{cond}
 use mathlib.Core.List.{List}
-use lib.Dec.{ltb, eqb}
+use lib.Dec.{ltb}
 use lib.Bits.{bitXor}
 use lib.Count.{ones}
 use lib.ListN.{length}
 use Rattle.numbers.specs.Bits.{bit}
 use Rattle.numbers.specs.Sums.{sumOf}
 use Rattle.numbers.specs.Search.{least}
+use Rattle.numbers.specs.Working.{unlike}
 use Rattle.numbers.specs.Turn.{difference}
 use Rattle.refusal.specs.Checks.{outcome}
 use Rattle.refusal.specs.Contract.{Meets}
@@ -35,10 +36,6 @@ pub record HoldsSummary (w : ℕ) (row ends : List ℕ) : Type 0 where
   pub few : w ≤ mostWires
   pub sets : 2 ^ w ≤ length row
   pub starts : suc w ≤ length ends
-
--- where two rows of numbers differ
-abbrev pub unlike : (ℕ → ℕ) → (ℕ → ℕ) → ℕ → Bool
-unlike f g i = not (eqb (f i) (g i))
 
 -- the lowest place where the coefficients or the listed ends (each at its start) differ; 2^w where none do
 abbrev pub lowestPlace : ℕ → Summary → Summary → ℕ

@@ -4,9 +4,10 @@ ghost use mathlib.Core.Path.{_≡_};
 ghost use Prim.Native.Nat.{_*_, _≤_, _<_};
 ghost use lib.ListN.{length};
 ghost use Rattle.numbers.specs.Search.{least};
+ghost use Rattle.numbers.specs.Working.{unlike};
 ghost use Rattle.running.specs.Masks.{mostWires};
 ghost use Rattle.coefficients.specs.Working.{entry};
-ghost use Rattle.verdict.specs.Working.{unlike, endOf, summary, HoldsSummary, lowestPlace, judged};
+ghost use Rattle.verdict.specs.Working.{endOf, summary, HoldsSummary, lowestPlace, judged};
 
 // The verdict at the lowest place where the summaries differ: both ends there, and first minus second.
 pub(crate) fn scan(

@@ -2,7 +2,7 @@ use Prim.Native.Nat.{ℕ, _-_, _<_, _≤_}
 use mathlib.Core.Path.{_≡_}
 use borrow.Author.Count.{below-more}
 use Rattle.coefficients.specs.Working.{entry}
-use Rattle.verdict.proofs.Judging.{unlike-least}
+use Rattle.numbers.proofs.Search.{unlike-least}
 use native.Mathlib.Omega.{arith}
 use Rattle.verdict.proofs.scan.first_unlike.Statement.{statement}
 use Rattle.verdict.proofs.scan.first_unlike.Tie as tie

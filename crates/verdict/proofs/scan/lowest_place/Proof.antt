@@ -4,10 +4,12 @@ use native.Mathlib.Numerals.{add-one}
 use native.Mathlib.Omega.{arith}
 use borrow.Author.Needs.{needs}
 use Rattle.numbers.specs.Search.{least}
+use Rattle.numbers.specs.Working.{unlike}
+use Rattle.numbers.proofs.Search.{unlike-found}
 use Rattle.numbers.proofs.Powers.{small-power}
 use Rattle.coefficients.specs.Working.{entry}
-use Rattle.verdict.specs.Working.{unlike, summary}
-use Rattle.verdict.proofs.Judging.{unlike-found, place-first, start-first}
+use Rattle.verdict.specs.Working.{summary}
+use Rattle.verdict.proofs.Judging.{place-first, start-first}
 use Rattle.verdict.proofs.scan.lowest_place.Statement.{statement}
 use Rattle.verdict.proofs.scan.lowest_place.Tie as tie
 
