@@ -51,6 +51,21 @@ static void random_file(File *f, u32 version, u32 w, u32 gates) {
     f->len = 8 + 4 * gates;
 }
 
+/* Every wire comes back: the second half ends with what the first half's CNOTs and inverters are, backwards, and has
+ * phases before that. */
+static void returning_file(File *f, u32 version, u32 w, u32 gates) {
+    random_file(f, version, w, gates);
+    u32 half = gates / 2, undone = gates;
+    for (u32 i = 0; i < half; i++) {
+        const u8 *g = f->bytes + 8 + 4 * i;
+        if (g[0] != 2) memcpy(f->bytes + 8 + 4 * --undone, g, 4);
+    }
+    for (u32 i = half; i < undone; i++) {
+        u8 *g = f->bytes + 8 + 4 * i;
+        g[0] = 2, g[2] = (u8)below(256), g[3] = (u8)below(256);
+    }
+}
+
 /* Whether two gates may change places; two CNOTs never do. */
 static int commute(const u8 *p, const u8 *q) {
     if (p[0] == q[0]) return p[0] != 1;
@@ -106,7 +121,7 @@ static size_t random_table(u8 *t, u32 n) {
 static u64 ours[6], plains[6];
 #define LINE __attribute__((aligned(64))) /* both sides' slices start alike */
 static union { u8 bytes[LIST_ROOM + 4096]; u16 words[4096]; } out_ours LINE, out_plain LINE;
-static u32 compared, refusals[14];
+static u32 compared, refusals[18];
 
 static void fill(void) {
     for (size_t i = 0; i < LIST_ROOM; i++) out_ours.bytes[i] = (u8)below(256);
@@ -126,7 +141,7 @@ static void same(const char *what) {
         exit(1);
     }
     compared++;
-    refusals[ours[0] < 14 ? ours[0] : 0]++;
+    refusals[ours[0] < 18 ? ours[0] : 0]++;
 }
 
 static void same_build(u32 n, const u8 *t, size_t len, size_t room) {
@@ -191,7 +206,8 @@ static void random_cases(u32 cases) {
     u8 t[40];
     for (u32 c = 0; c < cases; c++) {
         u32 version = 1 + below(2), w = 1 + below(10), gates = below(3) ? below(40) : below(2049);
-        random_file(&f, version, w, gates);
+        if (below(2)) random_file(&f, version, w, gates);
+        else returning_file(&f, version, w, gates);
         switch (below(4)) {
         case 0: random_file(&g, 1 + below(2), below(8) ? w : 1 + below(10), below(60)); break;
         case 1: reorder(&g, &f); break;
@@ -230,7 +246,7 @@ static void random_cases(u32 cases) {
 
 #define SETS 8
 static struct {
-    File file, other, flipped, flipped_other, built; /* the flipped ones are of version 2 */
+    File file, other, returning, flipped, flipped_other, built; /* the flipped ones are of version 2 */
     u8 table[32];
 } sets[SETS];
 
@@ -273,8 +289,14 @@ static void our_judge(u32 i) {
 static void c_judge(u32 i) {
     plain_judge(8, sets[i].table, 32, sets[i].built.bytes, sets[i].built.len, WORK(out_plain), 1024, plains);
 }
-static void our_list(u32 i) { phg_list(sets[i].file.bytes, sets[i].file.len, 1, OUT(out_ours), LIST_ROOM, ours); }
-static void c_list(u32 i) { plain_list(sets[i].file.bytes, sets[i].file.len, 1, OUT(out_plain), LIST_ROOM, plains); }
+static void our_list(u32 i) { phg_list(sets[i].file.bytes, sets[i].file.len, 0, OUT(out_ours), LIST_ROOM, ours); }
+static void c_list(u32 i) { plain_list(sets[i].file.bytes, sets[i].file.len, 0, OUT(out_plain), LIST_ROOM, plains); }
+static void our_wrapped(u32 i) {
+    phg_list(sets[i].returning.bytes, sets[i].returning.len, 1, OUT(out_ours), LIST_ROOM, ours);
+}
+static void c_wrapped(u32 i) {
+    plain_list(sets[i].returning.bytes, sets[i].returning.len, 1, OUT(out_plain), LIST_ROOM, plains);
+}
 static void our_run(u32 i) { phg_run(sets[i].file.bytes, sets[i].file.len, 1023, ours); }
 static void c_run(u32 i) { plain_run(sets[i].file.bytes, sets[i].file.len, 1023, plains); }
 
@@ -331,6 +353,7 @@ int main(int argc, char **argv) {
     for (u32 i = 0; i < SETS; i++) {
         random_file(&sets[i].file, 1, 10, 2048);
         reorder(&sets[i].other, &sets[i].file);
+        returning_file(&sets[i].returning, 1, 10, 2048);
         random_file(&sets[i].flipped, 2, 10, 2048);
         reorder(&sets[i].flipped_other, &sets[i].flipped);
         random_table(sets[i].table, 8);
@@ -344,14 +367,16 @@ int main(int argc, char **argv) {
         if (ours[1]) printf("compare's inputs of version 2 are not the same circuit\n"), exit(1);
         same_judge(8, sets[i].table, 32, &sets[i].built, 1024);
         if (ours[1]) printf("judge's input is not the table's oracle\n"), exit(1);
-        same_list(&sets[i].file, 1, LIST_ROOM);
+        same_list(&sets[i].file, 0, LIST_ROOM);
+        same_list(&sets[i].returning, 1, LIST_ROOM);
+        if (ours[0]) printf("list's wrapped input does not come back\n"), exit(1);
         same_run(&sets[i].file, 1023);
     }
     u32 fixed = compared;
     random_cases(1000);
     printf("Equal answers, numbers and slices: %u calls on the inputs below, %u on random ones, good and damaged\n"
-           "(answered: %u; refused 1 to 13:", fixed, compared - fixed, refusals[0]);
-    for (u32 i = 1; i < 14; i++) printf(" %u", refusals[i]);
+           "(answered: %u; refused 1 to 17:", fixed, compared - fixed, refusals[0]);
+    for (u32 i = 1; i < 18; i++) printf(" %u", refusals[i]);
     printf(").\n\nMedians of %u alternating rounds, microseconds a call:\n\n", ROUNDS);
     printf("| %-30s | %12s | %12s | %9s |\n|---|---|---|---|\n", "operation", "ours", "plain C", "ratio");
     measure("build, n = 8", our_build, c_build, ROUNDS);
@@ -361,6 +386,7 @@ int main(int argc, char **argv) {
     measure("compare, version 2", our_flipped_compare, c_flipped_compare, ROUNDS);
     measure("judge, n = 8, w = 9", our_judge, c_judge, ROUNDS);
     measure("list, w = 10, 2,048 gates", our_list, c_list, ROUNDS);
+    measure("list, wrapped", our_wrapped, c_wrapped, ROUNDS);
     measure("run, w = 10, 2,048 gates", our_run, c_run, ROUNDS);
     printf("\n| %-30s | %12s | %12s | %9s |\n|---|---|---|---|\n", "against brute force", "brute force", "ours", "ratio");
     measure("compare, all 1,024 starts", brute, our_compare, 5);

@@ -461,11 +461,30 @@ static inline u8 *put_wrap(u8 *p, u32 w) {
     return p + 8;
 }
 
+/* Whether some wire of a good file does not end on its own mask without a flip: bit 0 of what it holds is the flip. */
+static int is_loose(const u8 *g, u32 gates, u32 w) {
+    u16 held[16];
+    for (u32 i = 0; i < 16; i++) held[i] = (u16)(2u << i);
+    for (u32 i = 0; i < gates; i++) {
+        u32 x = load32(g + 4 * i), a = x >> 8 & 15;
+        if (!(x & 1)) continue;
+        if (x & 2) held[a] ^= 1;
+        else held[x >> 16 & 15] ^= held[a];
+    }
+    u32 loose = 0;
+    for (u32 i = 0; i < w; i++) loose |= held[i] ^ 2u << i;
+    return loose != 0;
+}
+
 void plain_list(const u8 *f, size_t len, u8 wrapped, u8 *out, size_t out_len, u64 *r) {
     Info info;
     if (file_refused(f, len, 0, &info, r)) return;
     const u8 *g = f + 8;
     u32 gates = info.gates, w = info.w;
+    if (wrapped && is_loose(g, gates, w)) {
+        say(r, PHG_LOOSE, 0, 0, 0, 0, 0);
+        return;
+    }
     size_t frame = 14 + 22 + 7 + (w < 10 ? 1 : 2) + 3 + (wrapped ? 16 : 0);
     if (out_len < frame + 25 * (size_t)gates) { /* a line has at most 25 bytes; only where that may not fit, its length is needed first */
         size_t length = frame;

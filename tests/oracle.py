@@ -21,6 +21,7 @@ SAME = "same"
 
 VARS, TABLE, PAD, SHORT, MARK, VERSION, WIRES = 1, 2, 3, 4, 5, 6, 7
 COUNT, LENGTH, GATE, STATE, UNLIKE, ROOM = 8, 9, 10, 11, 12, 13
+LOOSE = 17  # 02 §8
 
 
 class Refused(Exception):
@@ -222,8 +223,9 @@ def run(file, start):
     return run_gates(gates, start)
 
 
-def parities_met(w, gates):
-    """For each position the mask and the flip on the phase gate's wire there; None at another gate."""
+def parities(w, gates):
+    """For each position the mask and the flip on the phase gate's wire there, None at another gate; and the masks and the
+    flips at the end."""
     masks, flips = [1 << i for i in range(w)], [0] * w
     met = []
     for gate in gates:
@@ -233,7 +235,11 @@ def parities_met(w, gates):
             flips[gate.target] ^= flips[gate.control]
         if isinstance(gate, Inverter):
             flips[gate.wire] ^= 1
-    return met
+    return met, masks, flips
+
+
+def parities_met(w, gates):
+    return parities(w, gates)[0]
 
 
 # 02 §2: no turn, a quarter, a half, three quarters
@@ -345,11 +351,23 @@ def gate_line(gate):
     return f"u1({gate.angle // common}*pi/{32768 // common}) q[{gate.wire}];\n"
 
 
-def listing(file, wrapped, room=None):
-    version, w, gates = parse(file)
+def is_loose(w, gates):
+    """02 §8, with §12: some wire ends on another mask than its own, or with a flip."""
+    met, masks, flips = parities(w, gates)
+    return masks != [1 << i for i in range(w)] or any(flips)
+
+
+def listing_text(w, gates, wrapped):
     text = f'OPENQASM 2.0;\ninclude "qelib1.inc";\nqreg q[{w}];\n'
     around = f"h q[{w - 1}];\n" if wrapped else ""
-    text += around + "".join(gate_line(gate) for gate in gates) + around
+    return text + around + "".join(gate_line(gate) for gate in gates) + around
+
+
+def listing(file, wrapped, room=None):
+    version, w, gates = parse(file)
+    if wrapped and is_loose(w, gates):
+        raise Refused(LOOSE)
+    text = listing_text(w, gates, wrapped)
     check_room(room, len(text))
     return text.encode("ascii")
 
@@ -458,7 +476,9 @@ def check():
     holds(printout(b""), b"refused 1\n")
 
     check_inverters(holds)
-    print(f"{held} cases hold: those of document 01, the scores as 02 §2 has them, and inverters as 02 §12 has them")
+    check_loose(holds)
+    print(f"{held} cases hold: those of document 01, the scores as 02 §2 has them, inverters as 02 §12 has "
+          "them, and what is wrapped as 02 §8 has it")
 
 
 def check_inverters(holds):
@@ -492,6 +512,22 @@ def check_inverters(holds):
     holds(refusal(read, encode(1, [x], version=2)), None)
     holds(refusal(read, encode(1, [Phase(0, 1), x], version=1)), (GATE, 0, 1, KIND))
     holds(refusal(read, encode(1, [x], version=258)), (VERSION, 0, 0, 0))
+
+
+def check_loose(holds):
+    """02 §8, and what it asks against every start."""
+    x = Inverter(0)
+    swap = [Cnot(0, 1), Cnot(1, 0), Cnot(0, 1)]
+    handed_on = [x, Cnot(0, 1), x, Cnot(0, 1)]
+    for gates, loose in (([], False), ([Cnot(0, 1)], True), ([Cnot(0, 1)] * 2, False), (swap, True), (swap * 2, False),
+                         ([x], True), ([x] * 2, False), (handed_on, True), (handed_on + [Inverter(1)], False)):
+        file = encode(2, gates, version=2)
+        holds(is_loose(2, gates), loose)
+        holds(any(run_gates(gates, start)[0] != start for start in range(4)), loose)
+        holds(refusal(listing, file, True), (LOOSE, 0, 0, 0) if loose else None)
+        holds(refusal(listing, file, True, 0), (LOOSE if loose else ROOM, 0, 0, 0))
+        holds(refusal(listing, file, False), None)
+    holds(refusal(listing, encode(2, [Cnot(0, 1), Cnot(0, 2)]), True, 0), (GATE, 0, 1, WIRE))
 
 
 if __name__ == "__main__":

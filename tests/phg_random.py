@@ -46,6 +46,7 @@ REFUSALS = {
     10: ("GATE", "some gate is bad"),
     11: ("STATE", "the start is not below 2^w"),
     12: ("UNLIKE", "the wire counts differ"),
+    17: ("LOOSE", "a wire does not end as it starts"),
 }
 
 REASONS = {1: "kind", 2: "wire", 3: "equal", 4: "spare"}
@@ -345,9 +346,19 @@ class Call:
 
     def list(self):
         self.words = ["list"] + self.option("--wrapped")
-        self.words.append(self.name(random_file(self.rng)))
+        self.words.append(self.name(self.listed_file()))
         if self.rng.random() < 0.4:
             self.words.append(self.out())
+
+    def listed_file(self):
+        """Often one that comes back: few random ones of some CNOTs do."""
+        file = random_file(self.rng)
+        try:
+            version, w, gates = oracle.parse(file)
+        except Refused:
+            return file
+        moves = [gate for gate in gates if not isinstance(gate, Phase)]
+        return file if self.rng.random() < 0.4 else oracle.encode(w, gates + moves[::-1], version)
 
     def option(self, option):
         return [option] if self.rng.random() < 0.5 else []
@@ -456,6 +467,10 @@ judge --differences 2 06 folded
 list folded
 list --wrapped parities
 list --wrapped parities text
+list --wrapped mixing
+list --wrapped mixing never
+list mixing
+list --wrapped inverter_pair
 fold parities parities
 read parities
 count turns

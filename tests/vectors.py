@@ -998,7 +998,7 @@ def judge_requests(rng, good):
 def listing_rooms(note, w, gates, rooms=(0, 1, 23, -1), version=1):
     file = encode(w, gates, version)
     for wrapped in (False, True):
-        length = len(oracle.listing(file, wrapped))
+        length = len(oracle.listing_text(w, gates, wrapped))
         for extra in rooms:
             yield listing(f"{note}, room {extra:+}", file, wrapped, length + extra)
 
@@ -1034,7 +1034,8 @@ def listing_section(rng):
     yield listing("2,048 long lines, all the room there is", longest, False, 65535)
     mixed = random_file(rng, 10, 2048)
     yield listing("2,048 random gates, room exact", mixed, False, len(oracle.listing(mixed, False)))
-    yield listing("2,048 random gates, room larger", mixed, True, len(oracle.listing(mixed, True)) + 100)
+    yield listing("2,048 random gates, room larger", mixed, True,
+                  len(oracle.listing_text(10, oracle.parse(mixed).gates, True)) + 100)
     for note, file in refusal_samples():
         for wrapped in (False, True):
             for room in (0, 60):
@@ -1412,6 +1413,93 @@ def decimals_section(rng):
             yield refused_line(f"room {extra:+}", number, length + extra)
 
 
+# Section loose
+
+HANDED_ON = [X, Cnot(0, 1), X, Cnot(0, 1)]
+
+# Whether some wire of the gates is loose on two wires, by hand
+TWO_LOOSE = [
+    ("no gates", [], False), ("phases alone", [Phase(0, 5), Phase(1, 7)], False),
+    ("one CNOT", [Cnot(0, 1)], True), ("a CNOT twice", [Cnot(0, 1)] * 2, False), ("a CNOT three times", [Cnot(0, 1)] * 3, True),
+    ("a CNOT twice around a phase", [Cnot(0, 1), Phase(1, 5), Cnot(0, 1)], False),
+    ("a CNOT and the other way round", [Cnot(0, 1), Cnot(1, 0)], True),
+    ("three CNOTs that swap two wires", SWAP, True), ("a swap twice", SWAP + SWAP, False),
+    ("three times both ways, which comes back", [Cnot(0, 1), Cnot(1, 0)] * 3, False),
+    ("X once", [X], True), ("X twice", [X, X], False), ("X on each wire", [X, Inverter(1)], True),
+    ("X on each wire twice", [X, Inverter(1)] * 2, False), ("X twice around a phase", [X, Phase(0, 5), X], False),
+    ("a flip handed on, all masks back", HANDED_ON, True), ("and taken back", HANDED_ON + [Inverter(1)], False),
+    ("a flip on a wire that is swapped back", SWAP + [X] + SWAP, True),
+]
+
+
+def loose_requests(note, w, gates, loose, version, rooms=(0, 7, -1)):
+    """With room, with more, with too little and with none, wrapped and plain; loose is as written down, and as every start says."""
+    assert oracle.is_loose(w, gates) == loose, note
+    assert loose == any(oracle.run_gates(gates, start)[0] != start for start in range(2 ** w)), note
+    yield from listing_rooms(f"{note}, {w} wires", w, gates, rooms=rooms, version=version)
+    for wrapped in (False, True):
+        yield listing(f"{note}, {w} wires, no room", encode(w, gates, version), wrapped, 0)
+
+
+def one_wire_loose(w, wire):
+    """That wire alone is loose: by its mask, by its flip, and by neither any more."""
+    if w > 1:
+        other = (wire + 1) % w
+        yield "mask", 1, [Phase(wire, 3), Cnot(other, wire), Phase(other, 5)], True
+        yield "mask, behind the others' twins", 2, [Cnot(wire, other), Cnot(other, wire), Cnot(wire, other)] * 2 + [
+            Inverter(other), Cnot(other, wire), Inverter(other)], True
+        yield "mask, back", 1, [Cnot(other, wire), Phase(wire, 7), Cnot(other, wire)], False
+    yield "flip", 2, [Inverter(wire), Phase(wire, 9)], True
+    yield "flip, back", 2, [Inverter(wire), Phase(wire, 9), Inverter(wire)], False
+
+
+def moves_of(gates):
+    return [gate for gate in gates if not isinstance(gate, Phase)]
+
+
+def loose_section(rng):
+    """02 §8: what doesn't come back is not wrapped. Each gate undoes itself, so that gates and then their moves backwards come
+    back; without the last of them they do not."""
+    for note, gates, loose in TWO_LOOSE:
+        versions = (2,) if any(isinstance(gate, Inverter) for gate in gates) else (1, 2)
+        for version in versions:
+            yield from loose_requests(note, 2, gates, loose, version)
+    for note, gates, loose in (("X once", [X], True), ("X twice", [X, X], False)):
+        yield from loose_requests(note, 1, gates, loose, 2)
+    for w in range(1, 11):
+        for wire in sorted({0, w // 2, w - 1}):
+            for note, version, gates, loose in one_wire_loose(w, wire):
+                yield from loose_requests(f"wire {wire} by {note}", w, gates, loose, version)
+        for version in (1, 2):
+            gates = random_gates(rng, w, 3 * w, version) + [Cnot(0, w - 1) if w > 1 else Phase(0, 1)]
+            back = gates + moves_of(gates)[::-1]
+            yield from loose_requests(f"random gates that come back, version {version}", w, back, False, version)
+            if moves_of(gates):
+                yield from loose_requests(f"without the last, version {version}", w, back[:-1], True, version)
+    for n in range(1, 9):
+        built = oracle.construction(n, random_table(rng, n))
+        yield listing(f"built, n {n}", encode(n + 1, built), True, 65535)
+        yield listing(f"folded, n {n}", encode(n + 1, oracle.fold_gates(n + 1, built)), True, 65535)
+    yield from full_and_loose(rng)
+    for four in ("01000200", "01010100", "04000000", "01000101"):
+        bad = encode(2, [Cnot(0, 1)] * 2)[:-4] + bytes.fromhex(four)
+        for room in (0, 200):
+            yield listing("a bad gate behind loose wires", bad, True, room)
+
+
+def full_and_loose(rng):
+    half = random_gates(rng, 10, 1022, version=2) + [Cnot(8, 9), Inverter(9)]
+    moves = moves_of(half)
+    full = half + [Phase(9, 3)] * (1024 - len(moves)) + moves[::-1]
+    other = full[:-1] + [Inverter(0)]
+    assert len(full) == 2048 and not oracle.is_loose(10, full) and oracle.is_loose(10, other)
+    for note, gates in (("2,048 gates that come back", full), ("2,048 gates, the last another", other)):
+        file, length = encode(10, gates, version=2), len(oracle.listing_text(10, gates, True))
+        for room in (length, length - 1):
+            yield listing(f"{note}, room {room - length:+}", file, True, room)
+        yield listing(f"{note}, plain", file, False, length)
+
+
 # Section paper
 
 def paper_section(rng):
@@ -1502,7 +1590,7 @@ SECTIONS = {
     "build": (103, build_section), "fold": (104, fold_section), "verdict": (105, verdict_section),
     "listing": (106, listing_section), "table": (107, table_section), "oracle": (108, oracle_section),
     "printout": (109, printout_section), "reasons": (110, reasons_section), "scores": (111, scores_section),
-    "inverters": (112, inverters_section), "decimals": (113, decimals_section),
+    "inverters": (112, inverters_section), "decimals": (113, decimals_section), "loose": (114, loose_section),
 }
 
 

@@ -53,6 +53,7 @@ extern "C" {
 #define PHG_STATE 11   /* start not below 2^w */
 #define PHG_UNLIKE 12  /* wire counts differ; in judge, w is not n + 1 */
 #define PHG_ROOM 13    /* out shorter than this call's result, or work than 2^w */
+#define PHG_LOOSE 17   /* not to be wrapped: a wire does not end on its own mask, or ends with a flip */
 
 /* What is wrong with a bad gate: of several faults the first in this order. */
 #define PHG_REASON_KIND 1   /* the kind is none of 1, 2 and, where the file's version is 2, 3 */
@@ -108,7 +109,7 @@ void phg_judge(uint8_t n, const uint8_t *table, size_t table_len, const uint8_t 
                uint16_t *work, size_t work_len, uint64_t answer[6]);
 
 /* The OpenQASM 2.0 text of a file to the front of out, with the h lines where wrapped is not 0; no 0 byte ends it.
- * answer[1]: its length, at most 65,600. Refusals: FILE, ROOM. */
+ * answer[1]: its length, at most 65,600. Refusals: FILE, LOOSE where wrapped is not 0, ROOM. */
 void phg_list(const uint8_t *file, size_t file_len, uint8_t wrapped, uint8_t *out, size_t out_len,
               uint64_t answer[6]);
 

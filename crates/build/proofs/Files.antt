@@ -1,7 +1,7 @@
 -- What the built file is: well formed, of the length that is answered, and its table's oracle.
 use Prim.Native.Nat.{ℕ, _+_, _-_, _*_, _%_, _^_, _<_, _≤_}
 use native.Mathlib.Omega.{arith}
-use mathlib.Core.Path.{_≡_, _∙_}
+use mathlib.Core.Path.{_≡_, sym, subst, _∙_}
 use mathlib.Core.List.{List}
 use lib.ListN.{length}
 use lib.Pow.{pow-mono}
@@ -9,11 +9,14 @@ use Rattle.refusal.specs.Checks.{passed, outcome}
 use Rattle.table.specs.Table.{valueAt}
 use Rattle.spectrum.specs.Spectrum.{theta}
 use Rattle.running.specs.Run.{endFrom, phaseFrom}
+use Rattle.running.specs.Ends.{ComesBack}
+use Rattle.running.proofs.Ends.{ends-back}
+use Rattle.circuit.specs.declared.Gate.{Gate}
 use Rattle.circuit.specs.File.{versionOf, wiresOf, countOf, gatesOf, fileChecks}
 use Rattle.circuit.proofs.Files.{version-written, wires-written, count-written, list-written, written-passes}
 use Rattle.build.specs.Construction.{minus, construction, builtFile}
 use Rattle.build.proofs.Circuits.{length-parts, length-parts-file, sound-construction, admitted-construction}
-use Rattle.build.proofs.Oracle.{construction-run}
+use Rattle.build.proofs.Oracle.{construction-ends, construction-run}
 
 -- "The gates number 2^(n+2) - 2"
 pub construction-count : (n : ℕ) (f : ℕ → ℕ) → 0 < n → length (construction n f) + 2 ≡ 2 ^ (n + 2)
@@ -45,6 +48,12 @@ module _ (n : ℕ) (t : List ℕ) (p : 0 < n) (small : n ≤ 8) where
 
   pub built-gates : gatesOf (builtFile n t) ≡ construction n (valueAt t)
   built-gates = list-written 1 (n + 1) (construction n (valueAt t)) (sound-construction n (valueAt t)) (admitted-construction 1 n (valueAt t))
+
+  -- "The wires are restored": each ends on its own mask, without a flip
+  pub built-back : ComesBack (wiresOf (builtFile n t)) (gatesOf (builtFile n t))
+  built-back =
+      subst (λ (w : ℕ). ComesBack w (gatesOf (builtFile n t))) (sym built-wires)
+      (subst (λ (gs : List Gate). ComesBack (n + 1) gs) (sym built-gates) (ends-back (n + 1) (construction n (valueAt t)) (sound-construction n (valueAt t)) (construction-ends n (valueAt t))))
 
   -- its run from x + y 2^n ends where it starts, with phase 32,768 f(x) y
   pub built-run : (x y : ℕ) → x < 2 ^ n → y < 2

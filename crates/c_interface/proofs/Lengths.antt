@@ -2,8 +2,8 @@
 use Prim.Native.Nat.{ℕ, _+_, _^_, _≤_}
 use native.Mathlib.Omega.{arith}
 use mathlib.Core.Path.{_≡_, refl, ap}
-use mathlib.Core.Bool.{Bool, true}
-use mathlib.Core.List.{List, [], _∷_}
+use mathlib.Core.Bool.{Bool, true, false}
+use mathlib.Core.List.{List, [], _∷_, _++_}
 use lib.ListN.{length, getD}
 use lib.IntN.{ℤ}
 use Rattle.refusal.specs.Checks.{Check, passed, outcome, roomCheck}
@@ -19,7 +19,7 @@ use Rattle.fold.specs.Fold.{foldedFile, foldChecks, foldedSays, Folds}
 use Rattle.fold.proofs.Files.{file-shorter}
 use Rattle.fold.proofs.Scores.{score-falls}
 use Rattle.fold.proofs.Callers.{foldValues}
-use Rattle.listing.specs.Listing.{listingOfFile, listChecks, listedSays, Lists}
+use Rattle.listing.specs.Listing.{listingOfFile, looseCheck, listChecks, listedSays, Lists}
 use Rattle.listing.proofs.Callers.{list-short}
 use Rattle.oracle_listing.specs.Oracle.{oracleText, oracleChecks, ListsOracle}
 use Rattle.oracle_listing.proofs.Callers.{room-for-text}
@@ -70,5 +70,10 @@ module _ (f : List ℕ) (bytes : Bytes f) (ns : List ℕ) (zero : getD ns 0 0 �
   -- phg_list: "answer[1]: its length, at most 65,600"
   pub list-length : (wrapped : Bool) → Tells (Lists wrapped f out) listedSays ns after → getD ns 1 0 ≤ 65600
   list-length wrapped s =
-      let v = first-value listedSays (listChecks wrapped f (length out)) (length (listingOfFile wrapped f)) [] (listingOfFile wrapped f) out ns after s refl zero in
-      omega (arith, v .1, list-short wrapped f bytes (parts-pass (fileChecks 0 f) (roomCheck (length out) (length (listingOfFile wrapped f))) (v .0) .0))
+      let v = first-value listedSays (listChecks wrapped f (length out)) (length (listingOfFile wrapped f)) [] (listingOfFile wrapped f) out ns after s (rows wrapped) zero in
+      let rest = looseCheck wrapped (wiresOf f) (gatesOf f) ++ roomCheck (length out) (length (listingOfFile wrapped f)) in
+      omega (arith, v .1, list-short wrapped f bytes (parts-pass (fileChecks 0 f) rest (v .0) .0))
+    where
+      rows : (b : Bool) → numbered (listChecks b f (length out)) ≡ true
+      rows true = refl
+      rows false = refl

@@ -9,7 +9,7 @@ use Rattle.refusal.specs.Checks.{Check, check, other, outcome, roomCheck}
 use Rattle.refusal.proofs.Outcomes.{parts-pass}
 use Rattle.refusal.proofs.Rooms.{room-suffices}
 use Rattle.table.specs.Table.{tableChecks}
-use Rattle.circuit.specs.File.{wiresOf, fileChecks}
+use Rattle.circuit.specs.File.{wiresOf, gatesOf, fileChecks}
 use Rattle.circuit.specs.Bytes.{Bytes}
 use Rattle.circuit.proofs.Callers.{few-states}
 use Rattle.spectrum.specs.Spectrum.{spectrumChecks}
@@ -18,7 +18,7 @@ use Rattle.build.specs.Construction.{buildChecks}
 use Rattle.build.proofs.Callers.{build-room as build-suffices}
 use Rattle.fold.specs.Fold.{foldChecks}
 use Rattle.fold.proofs.Files.{fold-room as fold-suffices}
-use Rattle.listing.specs.Listing.{listChecks}
+use Rattle.listing.specs.Listing.{looseCheck, listChecks}
 use Rattle.listing.proofs.Callers.{list-room as list-suffices}
 use Rattle.verdict.specs.Judging.{compareChecks, judgeChecks}
 
@@ -33,7 +33,7 @@ module _ (f : List ℕ) (bytes : Bytes f) where
   pub fold-room : outcome (foldChecks f 8201) ≡ outcome (fileChecks 0 f)
   fold-room = fold-suffices f bytes 8201 (omega arith)
 
-  pub list-room : (wrapped : Bool) → outcome (listChecks wrapped f 65600) ≡ outcome (fileChecks 0 f)
+  pub list-room : (wrapped : Bool) → outcome (listChecks wrapped f 65600) ≡ outcome (fileChecks 0 f ++ looseCheck wrapped (wiresOf f) (gatesOf f))
   list-room wrapped = list-suffices wrapped f bytes 65600 (omega arith)
 
 -- the work slice

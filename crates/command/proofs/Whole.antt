@@ -24,7 +24,7 @@ use Rattle.fold.specs.declared.Folded.{Folded}
 use Rattle.fold.specs.Fold.{foldedFile, foldedSays, Folds}
 use Rattle.fold.proofs.Callers.{foldValues}
 use Rattle.listing.specs.declared.Listed.{Listed}
-use Rattle.listing.specs.Listing.{listingOfFile, listedSays, Lists}
+use Rattle.listing.specs.Listing.{listingOfFile, looseCheck, listedSays, Lists}
 use Rattle.verdict.specs.declared.Compared.{Compared}
 use Rattle.coefficients.specs.Coefficients.{coefficient, idealCoefficient}
 use Rattle.verdict.specs.Verdicts.{circuit, ideal, verdict, differences}
@@ -62,7 +62,8 @@ module _ (f : List ℕ) where
 
   pub list-whole : (wrapped : Bool) (out : List ℕ) (a : Listed) (left : List ℕ) → Lists wrapped (take 8201 f) out a left → Lists wrapped f out a left
   list-whole wrapped out a left =
-      meets-whole (fileChecks 0) (take 8201 f) f (file-cut 0 f) (file-whole 0 f) [] (λ g. roomCheck (length out) (length (listingOfFile wrapped g)))
+      meets-whole (fileChecks 0) (take 8201 f) f (file-cut 0 f) (file-whole 0 f) []
+      (λ g. looseCheck wrapped (wiresOf g) (gatesOf g) ++ roomCheck (length out) (length (listingOfFile wrapped g)))
       listedSays (λ g. length (listingOfFile wrapped g) ∷ []) a (listingOfFile wrapped) out left
 
 -- two inputs, one after the other

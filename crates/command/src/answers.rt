@@ -26,7 +26,7 @@ pub(crate) fn numbers(names: &[u8], row: &[usize]) {
 
 pub(crate) fn refused(r: Refusal) {
     let names =
-        b"\0 VARS\0 TABLE\0 PAD\0 SHORT\0 MARK\0 VERSION\0 WIRES\0 COUNT\0 LENGTH\0 GATE\0 STATE\0 UNLIKE\0 ROOM";
+        b"\0 VARS\0 TABLE\0 PAD\0 SHORT\0 MARK\0 VERSION\0 WIRES\0 COUNT\0 LENGTH\0 GATE\0 STATE\0 UNLIKE\0 ROOM\0\0\0\0 LOOSE";
     let row = r.number as usize;
     number(b"refused ", row);
     say(words::word(names, row));
@@ -42,7 +42,7 @@ fn reason(reason: u8) {
     say(words::word(reasons, reason as usize));
 }
 
-// The words of a row of document 01's table.
+// The words of a row of document 01's table, or of a refusal of 02. No operation gives 14 to 16.
 fn row_words(row: usize) {
     let rows = b"\0\
         : n is 0 or above 8\n\0\
@@ -57,7 +57,8 @@ fn row_words(row: usize) {
         : some gate is bad\n\0\
         : the start is not below 2^w\n\0\
         : the wire counts differ\n\0\
-        : the room is too small\n";
+        : the room is too small\n\0\0\0\0\
+        : a wire does not end as it starts\n";
     say(words::word(rows, row));
 }
 

@@ -10,12 +10,13 @@ use Rattle.circuit.specs.declared.Gate.{Gate}
 use Rattle.circuit.specs.Working.{AllSound, AllAdmitted}
 use Rattle.circuit.specs.File.{versionOf, wiresOf, gatesOf, fileChecks, fileOf}
 use Rattle.running.specs.Run.{endFrom, phaseFrom}
+use Rattle.running.specs.Ends.{lowestLoose}
 use Rattle.circuit.specs.Bytes.{Bytes}
 use Rattle.circuit.proofs.Callers.{good-file}
 use Rattle.circuit.proofs.Files.{file-sound, file-admitted, length-gates, length-file, version-written, wires-written, list-written, written-passes}
 use Rattle.fold.specs.Working.{movesOf}
 use Rattle.fold.specs.Fold.{folded, foldedFile, foldChecks}
-use Rattle.fold.proofs.Folding.{folded-sound, folded-admitted, folded-shorter, folded-twice, same-moves, same-end, same-phase}
+use Rattle.fold.proofs.Folding.{folded-sound, folded-admitted, folded-shorter, folded-twice, same-moves, same-loose, same-end, same-phase}
 
 -- 02 §12, "Folding .. write[s] the input's version"
 pub same-version : (f : List ℕ) → versionOf (foldedFile f) ≡ versionOf f
@@ -55,6 +56,10 @@ module _ (s : ℕ) (f : List ℕ) (bytes : Bytes f) (h : outcome (fileChecks s f
 
   pub file-moves : movesOf (gatesOf (foldedFile f)) ≡ movesOf (gatesOf f)
   file-moves = ap movesOf gates-of-folded ∙ same-moves (wiresOf f) (gatesOf f)
+
+  -- and the lowest loose wire is the file's
+  pub file-loose : lowestLoose (wiresOf (foldedFile f)) (gatesOf (foldedFile f)) ≡ lowestLoose (wiresOf f) (gatesOf f)
+  file-loose = ap₂ lowestLoose (same-wires f) gates-of-folded ∙ same-loose (wiresOf f) (gatesOf f)
 
   -- every start ends in the same state with the same phase
   pub file-end : (x : ℕ) → endFrom (gatesOf (foldedFile f)) x ≡ endFrom (gatesOf f) x

@@ -4,8 +4,10 @@ use native.Mathlib.Nat.{mod-mod, dvd-zero, dvd-mul-left-of-dvd, mod-eq-zero-of-d
 use native.Mathlib.Omega.{arith}
 use mathlib.Core.Path.{_≡_, refl, sym, ap, ap₂, _∙_}
 use mathlib.Core.List.{List, [], _∷_}
+use lib.Dec.{eqb}
 use lib.ListN.{length, getD}
 use Rattle.numbers.specs.Bits.{equal, dot}
+use Rattle.numbers.specs.Search.{least}
 use Rattle.numbers.specs.Working.{_≈_}
 use Rattle.numbers.proofs.Turns.{≈-of, ≈-mod, ≈-scale, _≈∙_}
 use Rattle.numbers.proofs.Angles.{≈-sum}
@@ -16,7 +18,9 @@ use Rattle.running.specs.Run.{stepped, endFrom, totalFrom, phaseFrom, cnots, in
 use Rattle.running.specs.Working.{heldOf, ownNumbers, numbersAfter, numbersFrom, sumNumbers, startOf}
 use Rattle.running.proofs.Masks.{own-below, total-parity}
 use Rattle.running.proofs.Groups.{collect, divides-sum}
-use Rattle.running.specs.Masks.{heldAt, ownHeld, heldFrom}
+use Rattle.running.specs.Masks.{held, heldAt, ownHeld, heldFrom}
+use Rattle.running.specs.Groups.{sameHeld}
+use Rattle.running.specs.Ends.{lowestLoose}
 use Rattle.running.proofs.Held.{held-number, total-number}
 use Rattle.fold.specs.Working.{movesOf}
 use Rattle.fold.specs.Fold.{folded}
@@ -66,6 +70,10 @@ module _ (w : ℕ) (gs : List Gate) where
 
   pub same-held : (i : ℕ) → heldAt (heldFrom (folded w gs) (ownHeld w)) i ≡ heldAt (heldFrom gs (ownHeld w)) i
   same-held i = held-number w (folded w gs) i ∙ ap (λ (ns : List ℕ). heldOf (getD ns i 0)) (same-numbers (ownNumbers w)) ∙ sym (held-number w gs i)
+
+  -- what comes back still does, and what does not does not
+  pub same-loose : lowestLoose w (folded w gs) ≡ lowestLoose w gs
+  same-loose j = least (λ i. eqb (sameHeld (same-held i j) (held (2 ^ i) 0)) 0) w 0
 
   pub same-end : (s : ℕ) → endFrom (folded w gs) s ≡ endFrom gs s
   same-end s = by-moves (λ l. endFrom l s) (λ l. end-of-moves l s)

@@ -9,6 +9,7 @@ use Rattle.refusal.specs.declared.Refusal.{Refusal}
 use Rattle.refusal.specs.Checks.{Check, passed, refused, outcome, roomCheck}
 use Rattle.refusal.proofs.Passed.{passed-fail}
 use Rattle.refusal.proofs.Contracts.{Distinct, same-refusal, meets-values, meets-refusal}
+use Rattle.refusal.proofs.Outcomes.{parts-pass}
 use Rattle.refusal.proofs.Rooms.{room-suffices}
 use Rattle.circuit.specs.File.{wiresOf, gatesOf, fileChecks}
 use Rattle.circuit.specs.Bytes.{Bytes}
@@ -16,7 +17,7 @@ use Rattle.circuit.proofs.Callers.{good-file}
 use Rattle.circuit.proofs.Files.{file-sound, length-gates}
 use Rattle.listing.specs.declared.Listed.{Listed}
 use Rattle.listing.specs.declared.Listed.the-variants.{Length, Refused}
-use Rattle.listing.specs.Listing.{listingOfFile, listChecks, listedSays, Lists, Writes}
+use Rattle.listing.specs.Listing.{listingOfFile, looseCheck, listChecks, listedSays, Lists, Writes}
 use Rattle.listing.proofs.Lengths.{listing-short}
 
 module _ (wrapped : Bool) (f before : List ℕ) (a : Listed) (after : List ℕ) (m : Lists wrapped f before a after) where
@@ -57,6 +58,8 @@ module _ (wrapped : Bool) (f : List ℕ) (bytes : Bytes f) where
       let g = good-file 0 f e in
       omega (arith, g .count, length-gates f bytes g, listing-short wrapped (wiresOf f) (gatesOf f) (g .few) (file-sound f bytes g))
 
-  -- with that much room only the file can be refused
-  pub list-room : (room : ℕ) → 65600 ≤ room → outcome (listChecks wrapped f room) ≡ outcome (fileChecks 0 f)
-  list-room room h = room-suffices (fileChecks 0 f) room (length (listingOfFile wrapped f)) (λ e. omega (arith, list-short e))
+  -- with that much room only the file and its loose wires can be refused
+  pub list-room : (room : ℕ) → 65600 ≤ room → outcome (listChecks wrapped f room) ≡ outcome (fileChecks 0 f ++ looseCheck wrapped (wiresOf f) (gatesOf f))
+  list-room room h =
+      let loose = looseCheck wrapped (wiresOf f) (gatesOf f) in
+      room-suffices (fileChecks 0 f ++ loose) room (length (listingOfFile wrapped f)) (λ e. omega (arith, list-short (parts-pass (fileChecks 0 f) loose e .0)))

@@ -3,11 +3,13 @@ use Prim.Native.Nat.{ℕ, _-_}
 use mathlib.Core.Bool.{Bool, true, false}
 use mathlib.Core.List.{List, [], _∷_, _++_}
 use lib.ListN.{length}
-use Rattle.refusal.specs.Checks.{Check, outcome, roomCheck}
+use Rattle.refusal.specs.Names.{refusal, LOOSE}
+use Rattle.refusal.specs.Checks.{Check, check, less, outcome, roomCheck}
 use Rattle.refusal.specs.Contract.{Said, values, saidOf, Meets}
 use Rattle.circuit.specs.declared.Gate.{Gate}
 use Rattle.circuit.specs.declared.Gate.the-variants.{Cnot, Phase, Inverter}
 use Rattle.circuit.specs.File.{wiresOf, gatesOf, fileChecks}
+use Rattle.running.specs.Ends.{lowestLoose}
 use Rattle.listing.specs.declared.Listed.{Listed}
 use Rattle.listing.specs.declared.Listed.the-variants.{Length, Refused}
 use Rattle.listing.specs.Text.{numbered}
@@ -54,9 +56,14 @@ listingOf wrapped w gs = headLines w ++ (wrapLine wrapped w ++ (gateLines gs ++ 
 abbrev pub listingOfFile : Bool → List ℕ → List ℕ
 listingOfFile wrapped f = listingOf wrapped (wiresOf f) (gatesOf f)
 
--- rows 4 to 10, then 13 "output slice shorter than this call's result"
+-- 02 §8, "The wrapped listing is refused unless every wire ends on its own mask." "17 LOOSE, .. wrapped listing only"
+abbrev pub looseCheck : Bool → ℕ → List Gate → List Check
+looseCheck false w gs = []
+looseCheck true w gs = check (less (lowestLoose w gs) w) (refusal LOOSE) ∷ []
+
+-- rows 4 to 10, then 17 "after 10 and before 13", then 13 "output slice shorter than this call's result"
 abbrev pub listChecks : Bool → List ℕ → ℕ → List Check
-listChecks wrapped f room = fileChecks 0 f ++ roomCheck room (length (listingOfFile wrapped f))
+listChecks wrapped f room = fileChecks 0 f ++ (looseCheck wrapped (wiresOf f) (gatesOf f) ++ roomCheck room (length (listingOfFile wrapped f)))
 
 -- the answer is the text's length
 abbrev pub listedSays : Listed → Said

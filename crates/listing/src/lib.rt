@@ -3,6 +3,7 @@ use circuit::Reading;
 use refusal::Refusal;
 
 mod lines;
+mod loose;
 mod text;
 mod words;
 
@@ -76,6 +77,9 @@ pub fn list(file: &[u8], wrapped: bool, out: &mut [u8]) -> Listed
     match circuit::read(file) {
         Reading::Refused(refusal) => Listed::Refused(refusal),
         Reading::Circuit { wires, gates } => {
+            if loose::is_loose(file, wires, gates, wrapped) {
+                return Listed::Refused(refusal::by(refusal::LOOSE));
+            }
             if !fits(file, wires, gates, wrapped, out.len()) {
                 return Listed::Refused(refusal::by(refusal::ROOM));
             }

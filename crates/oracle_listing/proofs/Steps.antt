@@ -1,35 +1,36 @@
 -- One operation after another: each is lent room enough, so that only its input can be refused.
 use Prim.Native.Nat.{ℕ, _+_, _-_, _≤_}
 use native.Mathlib.Omega.{arith}
-use mathlib.Core.Path.{_≡_, refl, sym, ap, subst, _∙_}
+use mathlib.Core.Path.{_≡_, refl, sym, ap, ap₂, subst, _∙_}
 use mathlib.Core.Bool.{true}
 use mathlib.Core.Logic.{inl}
 use mathlib.Core.List.{List, [], _∷_, _++_}
 use lib.ListN.{length, take, drop, length-append, length-drop}
 use lib.Seq.{take-at, take-all}
 use Rattle.refusal.specs.declared.Refusal.{Refusal}
-use Rattle.refusal.specs.Names.{refusal, VARS}
-use Rattle.refusal.specs.Checks.{Check, Outcome, passed, refused, outcome, roomCheck}
+use Rattle.refusal.specs.Names.{refusal, VARS, LOOSE}
+use Rattle.refusal.specs.Checks.{Check, check, less, Outcome, passed, refused, outcome, settle, roomCheck}
 use Rattle.refusal.specs.Contract.{Meets}
-use Rattle.refusal.proofs.Outcomes.{reaches, then-passed}
+use Rattle.refusal.proofs.Outcomes.{reaches, outcome-append, then-refused, then-passed, both-pass}
 use Rattle.refusal.proofs.Rooms.{earlier-refused}
 use Rattle.table.specs.Table.{tableChecks}
 use Rattle.table.proofs.Callers.{good-variables}
-use Rattle.circuit.specs.File.{fileChecks}
+use Rattle.circuit.specs.File.{wiresOf, gatesOf, fileChecks}
 use Rattle.circuit.specs.Bytes.{Bytes}
 use Rattle.build.specs.declared.Built.{Built}
 use Rattle.build.specs.declared.Built.the-variants.{Length as BuiltLength, Refused as BuiltRefused}
 use Rattle.build.specs.Construction.{builtFile, buildChecks, Builds}
-use Rattle.build.proofs.Files.{built-long, built-passes}
+use Rattle.build.proofs.Files.{built-long, built-passes, built-back}
 use Rattle.build.proofs.Callers.{build-room, build-answers, build-refuses}
 use Rattle.fold.specs.declared.Folded.{Folded}
 use Rattle.fold.specs.declared.Folded.the-variants.{File, Refused as FoldRefused}
 use Rattle.fold.specs.Fold.{foldedFile, foldChecks, Folds}
-use Rattle.fold.proofs.Files.{folded-passes, fold-room}
+use Rattle.fold.proofs.Files.{same-wires, folded-passes, file-loose, fold-room}
 use Rattle.fold.proofs.Callers.{fold-answers, fold-refuses}
 use Rattle.listing.specs.declared.Listed.{Listed}
 use Rattle.listing.specs.declared.Listed.the-variants.{Refused}
-use Rattle.listing.specs.Listing.{listedSays, Lists}
+use Rattle.listing.specs.Listing.{looseCheck, listedSays, Lists}
+use Rattle.listing.proofs.Wrapping.{back-passes}
 use Rattle.oracle_listing.specs.Working.{ListsFolded}
 use Rattle.oracle_listing.specs.Oracle.{variablesOf, tableOf, foldedListing, oracleText, ListsOracle}
 
@@ -72,29 +73,48 @@ module _ (n : ℕ) (t lent : List ℕ) (long : 4096 ≡ length lent) (a : Built)
       let p : outcome (tableChecks n t) ≡ passed = sym only-table ∙ v .0 in
       ready (tableChecks n t) (builtFile n t) lent after l p (v .1 ∙ sym (built-long n t (good-variables n t p .0))) (v .2)
 
--- a contract for an input that passed is the contract for what was made of it
-passed-on : (cs ds : List Check) (text before : List ℕ) (a : Listed) (after : List ℕ) → outcome cs ≡ passed → outcome ds ≡ passed
+-- a contract whose checks come to the same is the same
+passed-on : (cs ds : List Check) (text before : List ℕ) (a : Listed) (after : List ℕ) → outcome ds ≡ outcome cs
     → Meets listedSays (outcome (ds ++ roomCheck (length before) (length text))) (length text ∷ []) text before a after
     → Meets listedSays (outcome (cs ++ roomCheck (length before) (length text))) (length text ∷ []) text before a after
-passed-on cs ds text before a after p q m =
+passed-on cs ds text before a after e m =
+    let room = roomCheck (length before) (length text) in
     subst (λ (o : Outcome). Meets listedSays o (length text ∷ []) text before a after)
-    (then-passed ds (roomCheck (length before) (length text)) q ∙ sym (then-passed cs (roomCheck (length before) (length text)) p)) m
+    (outcome-append ds room ∙ ap (λ (o : Outcome). settle o refused (outcome room)) e ∙ sym (outcome-append cs room)) m
+
+-- what a file passes to be listed, wrapped
+abbrev listable : List ℕ → List Check
+listable f = fileChecks 0 f ++ looseCheck true (wiresOf f) (gatesOf f)
 
 pub folded-refused : (f before : List ℕ) (r : Refusal) → outcome (fileChecks 0 f) ≡ refused r → ListsFolded f before (Refused r) before
-folded-refused f before r e = earlier-refused listedSays (fileChecks 0 f) (length (foldedListing f)) (length (foldedListing f) ∷ []) (foldedListing f) before (Refused r) r refl e
+folded-refused f before r e =
+    earlier-refused listedSays (listable f) (length (foldedListing f)) (length (foldedListing f) ∷ []) (foldedListing f) before (Refused r) r refl (then-refused (fileChecks 0 f) (looseCheck true (wiresOf f) (gatesOf f)) r e)
+
+-- the folding of a file that passes is listable where the file is
+still-listable : (f : List ℕ) → Bytes f → outcome (fileChecks 0 f) ≡ passed → outcome (listable (foldedFile f)) ≡ outcome (listable f)
+still-listable f bytes p =
+    let loose : ℕ → ℕ → List Check = λ l w. check (less l w) (refusal LOOSE) ∷ [] in
+    then-passed (fileChecks 0 (foldedFile f)) (looseCheck true (wiresOf (foldedFile f)) (gatesOf (foldedFile f))) (folded-passes 0 f bytes p 0)
+    ∙ ap₂ (λ (l w : ℕ). outcome (loose l w)) (file-loose 0 f bytes p) (same-wires f) ∙ sym (then-passed (fileChecks 0 f) (looseCheck true (wiresOf f) (gatesOf f)) p)
 
 pub folded-listed : (f slice before : List ℕ) (l : ℕ) → Bytes f → Ready (fileChecks 0 f) (foldedFile f) slice l → (a : Listed) (after : List ℕ) → Lists true (take l slice) before a after → ListsFolded f before a after
 folded-listed f slice before l bytes g a after m =
-    passed-on (fileChecks 0 f) (fileChecks 0 (foldedFile f)) (foldedListing f) before a after (g .passes) (folded-passes 0 f bytes (g .passes) 0)
+    passed-on (listable f) (listable (foldedFile f)) (foldedListing f) before a after (still-listable f bytes (g .passes))
     (subst (λ (x : List ℕ). Lists true x before a after) (g .front) m)
 
 pub table-refused : (n : ℕ) (t before : List ℕ) (r : Refusal) → outcome (tableChecks n t) ≡ refused r → ListsOracle n t before (Refused r) before
 table-refused n t before r e = earlier-refused listedSays (tableChecks n t) (length (oracleText n t)) (length (oracleText n t) ∷ []) (oracleText n t) before (Refused r) r refl e
 
+-- a built file brings every wire back: 17 never comes
+built-listable : (n : ℕ) (t : List ℕ) → outcome (tableChecks n t) ≡ passed → outcome (listable (builtFile n t)) ≡ passed
+built-listable n t p =
+    let v = good-variables n t p in
+    let f = builtFile n t in
+    both-pass (fileChecks 0 f) (looseCheck true (wiresOf f) (gatesOf f)) (built-passes n t (v .0) (v .1) 0) (back-passes (wiresOf f) (gatesOf f) true (built-back n t (v .0) (v .1)))
+
 pub table-listed : (n : ℕ) (t slice before : List ℕ) (l : ℕ) → Ready (tableChecks n t) (builtFile n t) slice l → (a : Listed) (after : List ℕ) → ListsFolded (take l slice) before a after → ListsOracle n t before a after
 table-listed n t slice before l g a after m =
-    let v = good-variables n t (g .passes) in
-    passed-on (tableChecks n t) (fileChecks 0 (builtFile n t)) (oracleText n t) before a after (g .passes) (built-passes n t (v .0) (v .1) 0)
+    passed-on (tableChecks n t) (listable (builtFile n t)) (oracleText n t) before a after (built-listable n t (g .passes) ∙ sym (g .passes))
     (subst (λ (x : List ℕ). ListsFolded x before a after) (g .front) m)
 
 -- "An empty input is refused 1."

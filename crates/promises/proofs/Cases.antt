@@ -5,7 +5,7 @@ use lib.Count.{ones, onesIn, trailingZeros}
 use Rattle.refusal.specs.Checks.{outcome}
 use Rattle.numbers.specs.Bits.{dot, subset}
 use Rattle.spectrum.specs.Spectrum.{spectrumOf}
-use Rattle.circuit.specs.declared.Gate.the-variants.{Cnot, Inverter}
+use Rattle.circuit.specs.declared.Gate.the-variants.{Inverter}
 use Rattle.circuit.specs.Gates.{decoded, firstBad, gatesFrom, bytesOf}
 use Rattle.circuit.specs.File.{fileOf}
 use Rattle.running.specs.Run.{endFrom, totalFrom, cnots, phases, scoreBy, inverters}
@@ -19,14 +19,14 @@ use Rattle.verdict.specs.Verdicts.{verdict, differences}
 use Rattle.numbers.specs.Search.{least}
 use Rattle.listing.specs.Text.{decimalFrom}
 use Rattle.listing.specs.Fractions.{denominator}
-use Rattle.listing.specs.Listing.{headLines, wrapLine, cnotLine, phaseLine, gateLines, listingOf, refusedLine}
-use Rattle.promises.specs.Cases.{built, compared, Holds, AllHold, builtHere, empty, onOne, emptyOnOne, cases}
+use Rattle.listing.specs.Listing.{headLines, wrapLine, cnotLine, phaseLine, inverterLine, gateLines, listingOf, refusedLine}
+use Rattle.promises.specs.Cases.{built, compared, isLoose, Holds, AllHold, builtHere, empty, oneCnot, onOne, emptyOnOne, cases}
 
 pub build-here : Holds (built 1 (0x02 ∷ []) builtHere)
 unfolding outcome dot ones onesIn trailingZeros spectrumOf bytesOf fileOf turned word construction
 build-here = record { says = refl; leaves = refl }
 
-pub cnot-differs : Holds (compared (fileOf 1 2 (Cnot 0 1 ∷ [])) empty (Different 1 3 1 0) (0 ∷ 0 ∷ 0 ∷ 0 ∷ []))
+pub cnot-differs : Holds (compared oneCnot empty (Different 1 3 1 0) (0 ∷ 0 ∷ 0 ∷ 0 ∷ []))
 unfolding outcome subset ones onesIn decoded firstBad gatesFrom bytesOf fileOf endFrom totalFrom heldFrom sumMet coefficient differences least verdict
 cnot-differs = record { says = refl; leaves = refl }
 
@@ -34,6 +34,14 @@ pub turned-differs : Holds (compared (onOne (Inverter 0 ∷ [])) emptyOnOne (Dif
 unfolding outcome subset ones onesIn decoded firstBad gatesFrom bytesOf fileOf endFrom totalFrom heldFrom sumMet coefficient differences least verdict
 turned-differs = record { says = refl; leaves = refl }
 
+pub cnot-loose : Holds (isLoose oneCnot)
+unfolding outcome decoded firstBad gatesFrom bytesOf fileOf heldFrom least
+cnot-loose = record { says = refl; leaves = refl }
+
+pub flip-loose : Holds (isLoose (onOne (Inverter 0 ∷ [])))
+unfolding outcome decoded firstBad gatesFrom bytesOf fileOf heldFrom least
+flip-loose = record { says = refl; leaves = refl }
+
 pub cases-hold : AllHold cases
-unfolding cases outcome dot subset ones onesIn trailingZeros spectrumOf decoded firstBad gatesFrom bytesOf fileOf endFrom totalFrom cnots phases scoreBy inverters heldFrom sumMet turned word construction foldedFrom coefficient differences least verdict decimalFrom denominator headLines wrapLine cnotLine phaseLine gateLines listingOf refusedLine
-cases-hold = (record { says = refl; leaves = refl }, (record { says = refl; leaves = refl }, (record { says = refl; leaves = refl }, (record { says = refl; leaves = refl }, (build-here, (refl, (record { says = refl; leaves = refl }, (refl, (record { says = refl; leaves = refl }, (refl, (record { says = refl; leaves = refl }, (record { says = refl; leaves = refl }, (cnot-differs, (record { says = refl; leaves = refl }, (record { says = refl; leaves = refl }, (record { says = refl; leaves = refl }, (record { says = refl; leaves = refl }, (record { says = refl; leaves = refl }, (record { says = refl; leaves = refl }, (record { says = refl; leaves = refl }, (record { says = refl; leaves = refl }, (record { says = refl; leaves = refl }, (record { says = refl; leaves = refl }, (record { says = refl; leaves = refl }, (record { says = refl; leaves = refl }, (turned-differs, (record { says = refl; leaves = refl }, (record { says = refl; leaves = refl }, (refl, tt)))))))))))))))))))))))))))))
+unfolding cases outcome dot subset ones onesIn trailingZeros spectrumOf decoded firstBad gatesFrom bytesOf fileOf endFrom totalFrom cnots phases scoreBy inverters heldFrom sumMet turned word construction foldedFrom coefficient differences least verdict decimalFrom denominator headLines wrapLine cnotLine phaseLine inverterLine gateLines listingOf refusedLine
+cases-hold = (record { says = refl; leaves = refl }, (record { says = refl; leaves = refl }, (record { says = refl; leaves = refl }, (record { says = refl; leaves = refl }, (build-here, (refl, (record { says = refl; leaves = refl }, (refl, (record { says = refl; leaves = refl }, (refl, (record { says = refl; leaves = refl }, (record { says = refl; leaves = refl }, (cnot-differs, (record { says = refl; leaves = refl }, (record { says = refl; leaves = refl }, (record { says = refl; leaves = refl }, (record { says = refl; leaves = refl }, (record { says = refl; leaves = refl }, (record { says = refl; leaves = refl }, (record { says = refl; leaves = refl }, (record { says = refl; leaves = refl }, (record { says = refl; leaves = refl }, (record { says = refl; leaves = refl }, (record { says = refl; leaves = refl }, (record { says = refl; leaves = refl }, (turned-differs, (record { says = refl; leaves = refl }, (record { says = refl; leaves = refl }, (refl, (cnot-loose, (record { says = refl; leaves = refl }, (record { says = refl; leaves = refl }, (flip-loose, (record { says = refl; leaves = refl }, tt))))))))))))))))))))))))))))))))))

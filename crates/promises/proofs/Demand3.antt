@@ -116,7 +116,7 @@ module _ (n : ℕ) (t : List ℕ) (good : outcome (tableChecks n t) ≡ passed) 
       (judge-passes n t (builtFile n t) work good (built-passes n t some few 0) w (subst (λ (k : ℕ). 2 ^ k ≤ length work) (sym w) room))
       (λ s h. built-agrees s (subst (λ (k : ℕ). s < 2 ^ k) w h))
 
-  built-bytes : Bytes (builtFile n t)
+  pub built-bytes : Bytes (builtFile n t)
   built-bytes = file-bytes 1 (n + 1) (construction n (valueAt t)) (omega arith) (omega (arith, few)) (omega (arith, few-gates n t some few)) (sound-construction n (valueAt t))
 
   abbrev folded : List ℕ

@@ -12,3 +12,4 @@ pub mod FirstStates
 pub mod ForC
 pub mod Inverters
 pub mod Version1
+pub mod Loose

@@ -9,7 +9,7 @@ use lib.ListN.{length, getD}
 use lib.IntN.{ℤ}
 use borrow.Author.Tests.{eqb-false}
 use Rattle.refusal.specs.declared.Refusal.{Refusal}
-use Rattle.refusal.specs.Names.{refusalAt, badGate, refusal, VARS, TABLE, PAD, SHORT, MARK, VERSION, WIRES, COUNT, LENGTH, GATE, STATE, UNLIKE, ROOM}
+use Rattle.refusal.specs.Names.{refusalAt, badGate, refusal, VARS, TABLE, PAD, SHORT, MARK, VERSION, WIRES, COUNT, LENGTH, GATE, STATE, UNLIKE, ROOM, LOOSE}
 use Rattle.refusal.specs.Checks.{Check, check, atLeast, Outcome, refused, outcome, roomCheck}
 use Rattle.refusal.specs.Contract.{Said, saidOf, Says}
 use Rattle.refusal.proofs.Outcomes.{part-refuses}
@@ -21,7 +21,7 @@ use Rattle.spectrum.specs.declared.Transformed.{Transformed}
 use Rattle.spectrum.specs.Spectrum.{transformedSays, Transforms}
 use Rattle.circuit.specs.declared.Reading.{Reading}
 use Rattle.circuit.specs.Gates.{reasonOf}
-use Rattle.circuit.specs.File.{wiresOf, countOf, badOf, reasonAt, fileChecks, readingSays, ReadsSide, Reads}
+use Rattle.circuit.specs.File.{wiresOf, countOf, gatesOf, badOf, reasonAt, fileChecks, readingSays, ReadsSide, Reads}
 use Rattle.circuit.proofs.FirstBad.{first-is-bad, before-is-good}
 use Rattle.running.specs.declared.Ran.{Ran}
 use Rattle.running.specs.declared.Counted.{Counted}
@@ -33,7 +33,8 @@ use Rattle.fold.specs.Fold.{foldedFile, foldChecks, foldedSays, Folds}
 use Rattle.verdict.specs.declared.Compared.{Compared}
 use Rattle.verdict.specs.Judging.{workChecks, compareChecks, judgeChecks, comparedSays, Compares, Judges}
 use Rattle.listing.specs.declared.Listed.{Listed}
-use Rattle.listing.specs.Listing.{listingOfFile, listChecks, listedSays, Lists, Writes}
+use Rattle.listing.specs.Listing.{listingOfFile, looseCheck, listChecks, listedSays, Lists, Writes}
+use Rattle.listing.proofs.Wrapping.{loose-given}
 use Rattle.oracle_listing.specs.Oracle.{oracleText, ListsOracle, printout, Prints}
 use Rattle.promises.specs.Demands.{FirstDemand}
 use Rattle.promises.specs.Reasons.{FirstBadGate, HandsOn, NoReason}
@@ -157,7 +158,11 @@ module _ (f : List ℕ) where
 
   pub list-reason : (wrapped : Bool) (out : List ℕ) (a : Listed) (after : List ℕ) → Lists wrapped f out a after → (r : Refusal) → listedSays a ≡ saidOf r → HandsOn only r
   list-reason wrapped out a after m =
-      answered-refusal listedSays (listChecks wrapped f (length out)) out a after (HandsOn only) (then-plain 0 f only refl _ (room-row (length out) (length (listingOfFile wrapped f)))) (list-first wrapped f out a after m)
+      let loose = looseCheck wrapped (wiresOf f) (gatesOf f) in
+      let room = roomCheck (length out) (length (listingOfFile wrapped f)) in
+      answered-refusal listedSays (listChecks wrapped f (length out)) out a after (HandsOn only)
+      (then-plain 0 f only refl (loose ++ room) (in-turn NoReason loose room (loose-given (wiresOf f) (gatesOf f) NoReason (no-reason LOOSE 0 refl) wrapped) (room-row (length out) (length (listingOfFile wrapped f)))))
+      (list-first wrapped f out a after m)
 
   pub judge-reason : (n : ℕ) (t work : List ℕ) (a : Compared) (after : List ℕ) → Judges n t f work a after → (r : Refusal) → comparedSays a ≡ saidOf r → HandsOn only r
   judge-reason n t work a after m =

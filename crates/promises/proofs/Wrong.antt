@@ -1,16 +1,16 @@
--- 01, "These programs are to be shown unacceptable", and two of 02 §12, as theorems over the contracts, each with the input that shows it.
-use Prim.Native.Nat.{ℕ, zero, suc, _<_, _∣_}
+-- 01, "These programs are to be shown unacceptable", two of 02 §12 and three of 02 §8, as theorems over the contracts, each with the input that shows it.
+use Prim.Native.Nat.{ℕ, zero, suc, _^_, _<_, _∣_}
 use native.Mathlib.Nat.{dvd-refl, dvd-antisymm, le-of-dvd}
 use native.Mathlib.Decide.{ℕ-discrete, decDvd}
 use native.Mathlib.Omega.{arith}
 use mathlib.Core.Path.{_≡_, refl, sym, ap, _∙_}
-use mathlib.Core.Bool.{false}
+use mathlib.Core.Bool.{true, false}
 use mathlib.Core.List.{List, [], _∷_, _++_}
 use lib.ListN.{length, getD, replicate, length-replicate}
 use lib.Count.{ones}
 use lib.IntN.{pos}
 use Rattle.numbers.specs.Bits.{subset}
-use Rattle.refusal.specs.Names.{badGate}
+use Rattle.refusal.specs.Names.{refusal, badGate, LOOSE}
 use Rattle.refusal.specs.Checks.{Check, passed, outcome}
 use Rattle.refusal.specs.Contract.{Said, Says}
 use Rattle.refusal.proofs.Rooms.{room-suffices}
@@ -39,16 +39,17 @@ use Rattle.coefficients.specs.Coefficients.{coefficient, idealCoefficient}
 use Rattle.verdict.specs.Verdicts.{verdict, differences}
 use Rattle.numbers.specs.Search.{least}
 use Rattle.verdict.specs.Judging.{compareChecks, judgeChecks, comparedSays, Compares, Judges}
-use Rattle.listing.specs.Listing.{headLines, wrapLine, gateLines, listingOf, listChecks, listedSays}
+use Rattle.running.specs.Ends.{heldAtEnd}
+use Rattle.listing.specs.Listing.{headLines, wrapLine, cnotLine, gateLines, listingOf, listChecks, listedSays}
 use Rattle.listing.specs.Text.{decimalFrom}
 use Rattle.oracle_listing.specs.Oracle.{oracleChecks}
 use Rattle.oracle_listing.proofs.Callers.{room-for-text}
 use Rattle.promises.specs.Demands.{Refuses}
-use Rattle.promises.specs.Cases.{builtHere, empty, onOne, emptyOnOne, twoFlips}
-use Rattle.promises.specs.Wrong.{Unacceptable, checking, transforming, reading, running, counting, building, folding, comparing, judging, listing, listingOracle, RefusesEverything, AlwaysFinds, LeavesBuffer, Copies, firstHeld, firstGroup, FoldsFirstGroup, AlwaysScores, AlwaysScoresBefore, AlwaysScoresAfter, ScoresBy, AlwaysReasons, lastReason, ReasonsByLast, NeverNamesZero}
+use Rattle.promises.specs.Cases.{builtHere, empty, oneCnot, onOne, emptyOnOne, twoFlips}
+use Rattle.promises.specs.Wrong.{Unacceptable, checking, transforming, reading, running, counting, building, folding, comparing, judging, listing, listingOracle, RefusesEverything, AlwaysFinds, LeavesBuffer, Copies, firstHeld, firstGroup, FoldsFirstGroup, AlwaysScores, AlwaysScoresBefore, AlwaysScoresAfter, ScoresBy, AlwaysReasons, lastReason, ReasonsByLast, NeverLoose, AsksMasksAlone, AlwaysAsks, NeverNamesZero}
 use Rattle.promises.specs.MasksAlone.{foldedByMaskFrom, FoldsByMask}
-use Rattle.promises.proofs.OneAnswer.{one-reading, one-count, one-build, one-fold, one-comparison, one-judgement}
-use Rattle.promises.proofs.Cases.{build-here, cnot-differs, turned-differs}
+use Rattle.promises.proofs.OneAnswer.{one-reading, one-count, one-build, one-fold, one-comparison, one-judgement, one-listing}
+use Rattle.promises.proofs.Cases.{build-here, cnot-differs, turned-differs, cnot-loose, flip-loose}
 
 -- no program that goes wrong at every input in such a way meets its contract at every input
 pub no-program : {Input Answer Entry : Type 0} (Contract Wrong : Input → Answer → List Entry → Type 0) → Unacceptable Contract Wrong
@@ -323,4 +324,30 @@ unfolding fileOf bytesOf decoded gatesFrom foldedByMaskFrom heldFrom sumMet
 masks-alone-folded = record {
   input = (twoFlips, replicate 28 0);
   fails = λ a x e m. let q = sym e ∙ one-fold twoFlips (replicate 28 0) a _ x _ m two-flips-fold .1 in let z : _≡_ {A = ℕ} 21 14 = ap (λ l. getD l 11 0) q in omega arith;
+}
+
+-- ---- wraps what does not come back, asks masks alone, and asks of a plain listing too
+
+pub wraps-loose : Unacceptable listing NeverLoose
+wraps-loose = record {
+  input = (true, oneCnot, []);
+  fails = λ a x wrong m. wrong (refusal LOOSE) (one-listing true oneCnot [] a _ x _ m cnot-loose .0) refl;
+}
+
+pub wraps-flipped : Unacceptable listing AsksMasksAlone
+unfolding fileOf bytesOf decoded gatesFrom heldFrom
+wraps-flipped = record {
+  input = (true, onOne (Inverter 0 ∷ []), []);
+  fails = λ a x wrong m. wrong own (refusal LOOSE) (one-listing true (onOne (Inverter 0 ∷ [])) [] a _ x _ m flip-loose .0) refl;
+}
+  where
+    own : (i : ℕ) → i < 1 → heldAtEnd 1 (Inverter 0 ∷ []) i .mask ≡ 2 ^ i
+    own zero h = refl
+    own (suc i) h = absurd (omega arith)
+
+pub plain-refused : Unacceptable listing AlwaysAsks
+unfolding outcome fileOf bytesOf decoded firstBad gatesFrom heldFrom least listingOf headLines wrapLine cnotLine gateLines decimalFrom
+plain-refused = record {
+  input = (false, oneCnot, replicate 80 0);
+  fails = λ a x wrong m. never listedSays (listChecks false oneCnot 80) _ a refl (m .says) (refusal LOOSE, ap listedSays (wrong (omega arith)));
 }

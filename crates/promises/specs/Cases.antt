@@ -2,9 +2,11 @@
 -- Each lends a slice that is just as long as the result.
 -- The scores are by 02 §2: "01's built files fall from 3 to 0 and from 8 to 7." The cases of version 2 are 02 §12's.
 use Prim.Native.Nat.{ℕ}
+use mathlib.Core.Bool.{true}
 use mathlib.Core.List.{List, [], _∷_}
 use lib.ListN.{length, replicate}
 use lib.IntN.{ℤ, pos, negsuc}
+use Rattle.refusal.specs.Names.{refusal, LOOSE}
 use Rattle.spectrum.specs.declared.Transformed.the-variants.{Entries}
 use Rattle.spectrum.specs.Spectrum.{Transforms}
 use Rattle.circuit.specs.declared.Gate.{Gate}
@@ -20,8 +22,9 @@ use Rattle.verdict.specs.declared.Verdict.{Verdict}
 use Rattle.verdict.specs.declared.Verdict.the-variants.{Same, Different}
 use Rattle.verdict.specs.declared.Compared.the-variants.{Found}
 use Rattle.verdict.specs.Judging.{Compares}
-use Rattle.listing.specs.declared.Listed.the-variants.{Length}
+use Rattle.listing.specs.declared.Listed.the-variants.{Length, Refused}
 use Rattle.listing.specs.Text.{ascii}
+use Rattle.listing.specs.Listing.{Lists}
 use Rattle.oracle_listing.specs.Oracle.{Prints}
 
 pub data Case : Type 0 where
@@ -37,6 +40,10 @@ pub data Case : Type 0 where
   compared : List ℕ → List ℕ → Verdict → List ℕ → Case
   -- the listing program's input, and what it prints
   prints : List ℕ → List ℕ → Case
+  -- a file, and its wrapped listing
+  wraps : List ℕ → List ℕ → Case
+  -- a file whose wrapped listing is refused 17, without room too
+  isLoose : List ℕ → Case
 
 abbrev pub zeros : {A : Type 0} → List A → List ℕ
 zeros l = replicate (length l) 0
@@ -49,6 +56,8 @@ Holds (counted f c p s x) = Counts f (Gates c p s x)
 Holds (folds f g b a) = Folds f (zeros g) (File (length g) b a) g
 Holds (compared f g v d) = Compares f g (zeros d) (Found v) d
 Holds (prints input text) = Prints input (zeros text) (Length (length text)) text
+Holds (wraps f text) = Lists true f (zeros text) (Length (length text)) text
+Holds (isLoose f) = Lists true f [] (Refused (refusal LOOSE)) []
 
 abbrev pub AllHold : List Case → Type 0
 AllHold [] = Unit {0}
@@ -76,6 +85,10 @@ empty = fileOf 1 2 []
 -- "Phases of a on wires 0 and 1, CNOT 0 to 1, a on wire 1, the CNOT again"
 abbrev pub threefold : ℕ → List ℕ
 threefold a = fileOf 1 2 (Phase 0 a ∷ Phase 1 a ∷ Cnot 0 1 ∷ Phase 1 a ∷ Cnot 0 1 ∷ [])
+
+-- "CNOT 0 to 1"
+abbrev pub oneCnot : List ℕ
+oneCnot = fileOf 1 2 (Cnot 0 1 ∷ [])
 
 -- a circuit on 1 wire in version 2, and the empty one in version 1
 abbrev pub onOne : List Gate → List ℕ
@@ -106,7 +119,7 @@ cases =
     ∷ counted foldedOfTwo 6 7 7 0
     ∷ folds (fileOf 1 1 (Phase 0 1 ∷ Phase 0 65535 ∷ [])) (fileOf 1 1 []) 2 0
     ∷ folds (fileOf 1 2 (Phase 1 5 ∷ Cnot 0 1 ∷ Phase 1 7 ∷ Cnot 0 1 ∷ Phase 1 9 ∷ [])) (fileOf 1 2 (Phase 1 14 ∷ Cnot 0 1 ∷ Phase 1 7 ∷ Cnot 0 1 ∷ [])) 3 2
-    ∷ compared (fileOf 1 2 (Cnot 0 1 ∷ [])) empty (Different 1 3 1 0) (0 ∷ 0 ∷ 0 ∷ 0 ∷ [])
+    ∷ compared oneCnot empty (Different 1 3 1 0) (0 ∷ 0 ∷ 0 ∷ 0 ∷ [])
     ∷ compared (fileOf 1 2 (Cnot 1 0 ∷ [])) empty (Different 2 3 2 0) (0 ∷ 0 ∷ 0 ∷ 0 ∷ [])
     ∷ compared builtHere empty (Different 3 3 3 32768) (0 ∷ 0 ∷ 0 ∷ 32768 ∷ [])
     ∷ compared (threefold 32768) empty Same (0 ∷ 0 ∷ 0 ∷ 0 ∷ [])
@@ -133,4 +146,11 @@ cases =
     ∷ folds twoFlips (onOne (Phase 0 14 ∷ Inverter 0 ∷ Phase 0 7 ∷ Inverter 0 ∷ [])) 3 2
     -- "The count answers the X gates too"
     ∷ counted twoFlips 0 3 3 2
+    -- 02 §8, "wires left mixed": one CNOT, and three that swap two wires; the same one twice comes back
+    ∷ isLoose oneCnot
+    ∷ isLoose (fileOf 1 2 (Cnot 0 1 ∷ Cnot 1 0 ∷ Cnot 0 1 ∷ []))
+    ∷ wraps (fileOf 1 2 (Cnot 0 1 ∷ Cnot 0 1 ∷ [])) (ascii "OPENQASM 2.0;\ninclude \"qelib1.inc\";\nqreg q[2];\nh q[1];\ncx q[0],q[1];\ncx q[0],q[1];\nh q[1];\n")
+    -- "17 asks for no flips either": X once, and twice
+    ∷ isLoose (onOne (Inverter 0 ∷ []))
+    ∷ wraps (onOne (Inverter 0 ∷ Inverter 0 ∷ [])) (ascii "OPENQASM 2.0;\ninclude \"qelib1.inc\";\nqreg q[1];\nh q[0];\nx q[0];\nx q[0];\nh q[0];\n")
     ∷ []

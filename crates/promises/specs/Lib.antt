@@ -4,3 +4,4 @@ pub mod Cases
 pub mod Wrong
 pub mod Inverters
 pub mod MasksAlone
+pub mod Loose

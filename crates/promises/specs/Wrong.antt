@@ -1,14 +1,14 @@
 -- 01, "How far every promise reaches": "These programs are to be shown unacceptable". What each does wrong, and what showing it means; two are of 02 §12.
-use Prim.Native.Nat.{ℕ, zero, suc}
+use Prim.Native.Nat.{ℕ, zero, suc, _^_, _<_}
 use mathlib.Core.Path.{_≡_}
 use mathlib.Core.Bool.{Bool, cond}
 use mathlib.Core.List.{List, [], _∷_, _++_}
 use lib.Dec.{ltb, eqb}
-use lib.ListN.{length, getD, drop}
+use lib.ListN.{length, drop}
 use lib.IntN.{ℤ}
 use Rattle.numbers.specs.Search.{least}
 use Rattle.refusal.specs.declared.Refusal.{Refusal}
-use Rattle.refusal.specs.Names.{GATE}
+use Rattle.refusal.specs.Names.{refusal, GATE, LOOSE}
 use Rattle.refusal.specs.Contract.{Said}
 use Rattle.table.specs.declared.Checked.{Checked}
 use Rattle.table.specs.Table.{valueAt, Checks}
@@ -30,6 +30,7 @@ use Rattle.build.specs.Construction.{Builds}
 use Rattle.fold.specs.declared.Folded.{Folded}
 use Rattle.fold.specs.declared.Folded.the-variants.{File}
 use Rattle.running.specs.Groups.{sameHeld, heldBefore}
+use Rattle.running.specs.Ends.{heldAtEnd, lowestLoose}
 use Rattle.fold.specs.Fold.{becomes, Folds}
 use Rattle.verdict.specs.declared.Verdict.{Verdict}
 use Rattle.verdict.specs.declared.Verdict.the-variants.{Same, Different}
@@ -39,9 +40,11 @@ use Rattle.numbers.specs.Turn.{difference}
 use Rattle.verdict.specs.Verdicts.{Side, circuit, ideal, part}
 use Rattle.verdict.specs.Judging.{Compares, Judges}
 use Rattle.listing.specs.declared.Listed.{Listed}
+use Rattle.listing.specs.declared.Listed.the-variants.{Refused as ListRefused}
 use Rattle.listing.specs.Listing.{Lists}
 use Rattle.oracle_listing.specs.Oracle.{ListsOracle}
 use Rattle.promises.specs.Demands.{Refuses}
+use Rattle.promises.specs.Loose.{NotLoose}
 
 -- whatever goes wrong in this way does not meet the contract, at an input that is named
 pub record Unacceptable {Input Answer Entry : Type 0} (Contract Wrong : Input → Answer → List Entry → Type 0) : Type 0 where
@@ -166,6 +169,19 @@ lastReason version w (suc n) p bs = orElse (lastReason version w n (suc p) (drop
 -- nor is that of the last bad gate
 abbrev pub ReasonsByLast : List ℕ → Reading → List ℕ → Type 0
 ReasonsByLast input answer after = (r : Refusal) → answer ≡ ReadRefused r → r .number ≡ GATE → r .reason ≡ lastReason (versionOf input) (wiresOf input) (countOf input) 0 (drop 8 input)
+
+-- 02 §8, "The wrapped listing is refused unless every wire ends on its own mask.": a listing that wraps whatever it is given
+abbrev pub NeverLoose : {Input : Type 0} → Input → Listed → List ℕ → Type 0
+NeverLoose input answer after = (r : Refusal) → answer ≡ ListRefused r → NotLoose r
+
+-- 02 §12, "17 asks for no flips either": one that wraps where every wire ends on its own mask, flipped or not
+abbrev pub AsksMasksAlone : Bool × List ℕ × List ℕ → Listed → List ℕ → Type 0
+AsksMasksAlone input answer after =
+    ((i : ℕ) → i < wiresOf (input .1) → heldAtEnd (wiresOf (input .1)) (gatesOf (input .1)) i .mask ≡ 2 ^ i) → NeverLoose input answer after
+
+-- 02 §8, "wrapped listing only": one that refuses what does not come back, wrapped or plain
+abbrev pub AlwaysAsks : Bool × List ℕ × List ℕ → Listed → List ℕ → Type 0
+AlwaysAsks input answer after = lowestLoose (wiresOf (input .1)) (gatesOf (input .1)) < wiresOf (input .1) → answer ≡ ListRefused (refusal LOOSE)
 
 -- 02 §12, "a differing state may now be 0": a comparison that never names it
 abbrev pub NeverNamesZero : {Input : Type 0} → Input → Compared → List ℕ → Type 0

@@ -1,4 +1,4 @@
--- 01, "Numbered refusals": the numbers by name, and a refusal of each kind.
+-- 01, "Numbered refusals", and those of 02: the numbers by name, and a refusal of each kind.
 use Prim.Native.Nat.{ℕ}
 use Rattle.refusal.specs.declared.Refusal.{Refusal}
 
@@ -40,6 +40,10 @@ UNLIKE = 12
 
 abbrev pub ROOM : ℕ
 ROOM = 13
+
+-- 02 §8, "17 LOOSE"
+abbrev pub LOOSE : ℕ
+LOOSE = 17
 
 -- "A refusal returns its number, the side .., and the position": of any number but 10
 abbrev pub refusalAt : ℕ → ℕ → ℕ → Refusal

@@ -6,6 +6,7 @@ pub mod Runs
 pub mod Groups
 pub mod Meetings
 pub mod Walks
+pub mod Ends
 mod Answers
 mod Stepping
 mod Loops

@@ -6,9 +6,9 @@ use native.Mathlib.Omega.{arith}
 use mathlib.Core.Path.{_≡_, refl, sym, ap, ap₂, _∙_}
 use mathlib.Core.List.{List, [], _∷_}
 use lib.ListN.{length, getD, set, replicate, length-set, length-replicate}
-use lib.Seq.{getD-set-same, getD-set-other, ext-getD}
+use lib.Seq.{getD-set-same, getD-set-other}
 use Rattle.numbers.specs.Bits.{equal}
-use Rattle.numbers.proofs.Lists.{length-list, getD-list, is-list}
+use Rattle.numbers.proofs.Lists.{is-list}
 use Rattle.numbers.proofs.Parity.{equal-yes, equal-no}
 use Rattle.circuit.specs.declared.Gate.{Gate}
 use Rattle.circuit.specs.declared.Gate.the-variants.{Cnot, Phase, Inverter}
@@ -22,8 +22,8 @@ use Rattle.running.specs.Masks.{mostWires}
 use Rattle.running.specs.Groups.{groupTotal}
 use Rattle.running.specs.Working.{heldOf, mostGroups, totalsOf, ownNumbers, numbersAfter, numbersFrom, At, met, sumNumbers, runStep, countStep, addMet, sumStep}
 use Rattle.running.proofs.Counts.{cnots-cons, score-cons, inverters-cons}
-use Rattle.running.proofs.Masks.{NumbersBelow, own-below, after-below, length-numbers, own-alike, sum-alike, zeros}
-use Rattle.running.proofs.Held.{number-at, total-number}
+use Rattle.running.proofs.Masks.{NumbersBelow, own-below, after-below, own-alike, sum-alike, zeros}
+use Rattle.running.proofs.Held.{total-number}
 
 pub run-walked : (gs : List Gate) (s p : ℕ) → p < 65536 → walked runStep gs (s, p) ≡ (endFrom gs s, (p + totalFrom gs s) % 65536)
 unfolding walked endFrom totalFrom
@@ -48,6 +48,12 @@ pub numbers-walked : (gs : List Gate) (ms row : List ℕ) → walked sumStep gs 
 unfolding walked numbersFrom
 numbers-walked [] ms row = refl
 numbers-walked (g ∷ gs) ms row = numbers-walked gs (numbersAfter g ms) (addMet (met g ms) row)
+
+-- the numbers alone
+pub held-walked : (gs : List Gate) (ms : List ℕ) → walked numbersAfter gs ms ≡ numbersFrom gs ms
+unfolding walked numbersFrom
+held-walked [] ms = refl
+held-walked (g ∷ gs) ms = held-walked gs (numbersAfter g ms)
 
 -- a row of all groups' totals, each less than a turn
 record Row (row : List ℕ) : Type 0 where

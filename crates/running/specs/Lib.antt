@@ -1,4 +1,5 @@
 pub mod Run
 pub mod Masks
 pub mod Groups
+pub mod Ends
 pub mod Working

@@ -12,6 +12,7 @@ pub use walker::held_at;
 pub use walker::invert;
 pub use walker::mix;
 pub use walker::own_held;
+pub use walker::pass;
 
 // The most wires that a circuit has.
 pub const WIRES: usize = 10;

@@ -1,5 +1,6 @@
 // What each wire holds, gate by gate: twice its mask, and its flip.
 use crate::WIRES;
+use circuit::Gate;
 ghost use mathlib.Core.Path.{_≡_};
 ghost use lib.ListN.{getD};
 ghost use Rattle.circuit.specs.declared.Gate.the-variants.{Cnot, Inverter};
@@ -39,5 +40,16 @@ pub fn invert(held: &mut [u16], wire: u8)
     let i = wire as usize;
     if i < held.len() {
         held[i] = held[i] ^ 1;
+    }
+}
+
+// What a gate makes of what the wires hold.
+pub fn pass(held: &mut [u16], gate: Gate)
+    ensures { λ _. ⌜ now (held .exit) ≡ numbersAfter gate (now (held .entry)) ⌝ }
+{
+    match gate {
+        Gate::Cnot { control, target } => mix(held, control, target),
+        Gate::Phase { wire: _, angle: _ } => {}
+        Gate::Inverter { wire } => invert(held, wire),
     }
 }

@@ -1,11 +1,15 @@
 use Prim.Native.Nat.{ℕ, _≤_}
 use native.Mathlib.Omega.{arith}
-use mathlib.Core.Path.{sym, _∙_}
+use mathlib.Core.Path.{_≡_, sym, ap, _∙_}
+use mathlib.Core.Bool.{Bool, cond}
 use mathlib.Core.List.{List, _++_}
 use lib.ListN.{length}
-use Rattle.circuit.specs.File.{gatesOf, fileChecks}
+use Rattle.refusal.specs.Names.{refusal, LOOSE}
+use Rattle.refusal.specs.Checks.{Check, passed, refused, outcome}
+use Rattle.refusal.proofs.Outcomes.{then-refused, then-passed}
+use Rattle.circuit.specs.File.{wiresOf, gatesOf, fileChecks}
 use Rattle.circuit.proofs.Callers.{Answered, read-answers, read-refuses}
-use Rattle.listing.specs.Listing.{headLines, wrapLine, gateLines, listingOfFile}
+use Rattle.listing.specs.Listing.{headLines, wrapLine, gateLines, listingOfFile, looseCheck}
 use Rattle.circuit.proofs.Parts.{Left, room, less-left, all-written}
 use Rattle.listing.proofs.Pieces.{listing-left}
 use Rattle.listing.proofs.Answers.{earlier-fails, room-fails, answered}
@@ -23,35 +27,52 @@ good c =
     let v = c .wires .given in
     read-answers 0 (start c .args .file .now) (got .read .result) (got .read .ensures) (v .0 .0) (v .0 .1 .0) (v .1)
 
--- what is left of the text
-abbrev found : tie.Else1 → tie.After-wires
-found c = c .before .before .before
+-- rows 4 to 10 and 17
+abbrev asked : tie.After-is-loose → tie.After-wires
+asked c = c .before .before
 
-abbrev begin : tie.Else1 → tie.Start
+abbrev loose : tie.After-is-loose → List Check
+loose c = let a = start (asked c) .args in looseCheck (a .wrapped) (wiresOf (a .file .now)) (gatesOf (a .file .now))
+
+abbrev rows : tie.After-is-loose → List Check
+rows c = fileChecks 0 (start (asked c) .args .file .now) ++ loose c
+
+-- they come to what was answered for 17
+comes-to : (c : tie.After-is-loose) → outcome (rows c) ≡ cond (c .is-loose .result) (refused (refusal LOOSE)) passed
+comes-to c = then-passed (fileChecks 0 (start (asked c) .args .file .now)) (loose c) (good (asked c) .passes) ∙ c .is-loose .ensures
+
+passes : (c : tie.Else1) → outcome (rows (c .before)) ≡ passed
+passes c = comes-to (c .before) ∙ ap (λ (b : Bool). cond b (refused (refusal LOOSE)) passed) (c .if1 .left)
+
+-- what is left of the text
+abbrev found : tie.Else2 → tie.After-wires
+found c = asked (c .before .before .before)
+
+abbrev begin : tie.Else2 → tie.Start
 begin c = start (found c)
 
-abbrev wires : tie.Else1 → ℕ
+abbrev wires : tie.Else2 → ℕ
 wires c = found c .wires .given .0 .0
 
-abbrev text : tie.Else1 → List ℕ
+abbrev text : tie.Else2 → List ℕ
 text c = listingOfFile (begin c .args .wrapped) (begin c .args .file .now)
 
-abbrev lines : tie.Else1 → List ℕ
+abbrev lines : tie.Else2 → List ℕ
 lines c = gateLines (gatesOf (begin c .args .file .now))
 
-abbrev wrap : tie.Else1 → List ℕ
+abbrev wrap : tie.Else2 → List ℕ
 wrap c = wrapLine (begin c .args .wrapped) (wires c)
 
-fitting : (c : tie.Else1) → length (text c) ≤ length (begin c .args .out .now)
-fitting c = let f = c .before in leb-true (length (text c)) (length (begin c .args .out .now)) (sym (f .fits2 .ensures) ∙ not-false (f .fits2 .result) (c .if1 .left))
+fitting : (c : tie.Else2) → length (text c) ≤ length (begin c .args .out .now)
+fitting c = let f = c .before in leb-true (length (text c)) (length (begin c .args .out .now)) (sym (f .fits2 .ensures) ∙ not-false (f .fits2 .result) (c .if2 .left))
 
-text-left : (c : tie.Else1) → let out = begin c .args .out .now in Left (text c) 0 out (headLines (wires c) ++ (wrap c ++ (lines c ++ wrap c))) 0 out
+text-left : (c : tie.Else2) → let out = begin c .args .out .now in Left (text c) 0 out (headLines (wires c) ++ (wrap c ++ (lines c ++ wrap c))) 0 out
 text-left c = let a = begin c .args in listing-left (a .wrapped) (a .file .now) (wires c) (a .out .now) (good (found c) .wires) (fitting c)
 
-some-wires : (c : tie.Else1) → 1 ≤ wires c
+some-wires : (c : tie.Else2) → 1 ≤ wires c
 some-wires c = let g = good (found c) in omega (arith, g .wires, g .file .some)
 
-abbrev checked : tie.After-put-head → tie.Else1
+abbrev checked : tie.After-put-head → tie.Else2
 checked c = c .before .before
 
 behind-head : (c : tie.After-put-head) → let s = checked c in Left (text s) 0 (begin s .args .out .now) (wrap s ++ (lines s ++ wrap s)) (c .put-head .result) (c .put-head .last .1 .0)
@@ -81,17 +102,32 @@ enum-known-refusal c = search needs
 enum-known-wires : tie.Need-enum-known-wires
 enum-known-wires c = search needs
 
-fits-requires : tie.Need-fits-requires
-fits-requires c κs = let g = good (c .before) in (g .passes, g .count, g .wires)
+is-loose-requires : tie.Need-is-loose-requires
+is-loose-requires c κs = let g = good (c .before) in (g .passes, g .count, g .wires)
 
 by-requires : tie.Need-by-requires
 by-requires c κs = search needs
 
 returns : tie.Need-returns
-returns c = let f = c .before .before in
-    let w = f .before .before in
-    let a = start w .args in
-    room-fails (fileChecks 0 (a .file .now)) (listingOfFile (a .wrapped) (a .file .now)) (a .out .now) (good w .passes) (leb-false (length (listingOfFile (a .wrapped) (a .file .now))) (length (a .out .now)) (sym (f .fits2 .ensures) ∙ not-true (f .fits2 .result) (c .before .if1 .taken))) (c .by .result) (c .by .ensures)
+returns c =
+    let l = c .before .before in
+    let a = start (asked l) .args in
+    earlier-fails (rows l) (listingOfFile (a .wrapped) (a .file .now)) (a .out .now) (c .by .result)
+    (comes-to l ∙ ap (λ (b : Bool). cond b (refused (refusal LOOSE)) passed) (c .before .if1 .taken) ∙ ap refused (sym (c .by .ensures)))
+
+fits-requires : tie.Need-fits-requires
+fits-requires c κs = let g = good (asked (c .before)) in (g .passes, g .count, g .wires)
+
+by-requires-2 : tie.Need-by-requires-2
+by-requires-2 c κs = search needs
+
+returns-2 : tie.Need-returns-2
+returns-2 c =
+    let f = c .before .before in
+    let e = f .before in
+    let a = start (asked (e .before)) .args in
+    room-fails (rows (e .before)) (listingOfFile (a .wrapped) (a .file .now)) (a .out .now) (passes e)
+    (leb-false (length (listingOfFile (a .wrapped) (a .file .now))) (length (a .out .now)) (sym (f .fits2 .ensures) ∙ not-true (f .fits2 .result) (c .before .if2 .taken))) (c .by2 .result) (c .by2 .ensures)
 
 put-head-requires : tie.Need-put-head-requires
 put-head-requires c κs = let s = c .before in room (headLines (wires s)) (wrap s ++ (lines s ++ wrap s)) (text-left s)
@@ -108,21 +144,25 @@ put-gates-requires c κs = let p = c .before .before .before in
 put-wrap-requires-2 : tie.Need-put-wrap-requires-2
 put-wrap-requires-2 c κs = let p = c .before .before .before in (some-wires (checked (headed (wrapped p))), behind-gates p .fits)
 
-returns-2 : tie.Need-returns-2
-returns-2 c = let f = c .before in
+returns-3 : tie.Need-returns-3
+returns-3 c =
+    let f = c .before in
     let got = f .before .before in
     let a = got .before .before .before .args in
-    earlier-fails (fileChecks 0 (a .file .now)) (listingOfFile (a .wrapped) (a .file .now)) (a .out .now) (f .refusal .given .0 .0) (read-refuses 0 (a .file .now) (got .read .result) (got .read .ensures) (f .refusal .given .0 .0) (f .refusal .given .1))
+    let file = fileChecks 0 (a .file .now) in
+    let loose = looseCheck (a .wrapped) (wiresOf (a .file .now)) (gatesOf (a .file .now)) in
+    let r = f .refusal .given .0 .0 in
+    earlier-fails (file ++ loose) (listingOfFile (a .wrapped) (a .file .now)) (a .out .now) r (then-refused file loose r (read-refuses 0 (a .file .now) (got .read .result) (got .read .ensures) r (f .refusal .given .1)))
 
 same-length : tie.Need-same-length
 same-length c = search needs
 
-returns-3 : tie.Need-returns-3
-returns-3 c = let p = c .before .before in
+returns-4 : tie.Need-returns-4
+returns-4 c = let p = c .before .before in
     let g = listed p in
     let s = checked (headed (wrapped g)) in
-    let a = begin s .args in
-    answered (fileChecks 0 (a .file .now)) (text s) (a .out .now) (good (found s) .passes) (fitting s) (p .put-wrap2 .result) (p .put-wrap2 .last .1 .1 .0) (all-written (behind-gates g) (p .put-wrap2 .ensures))
+    let e = s .before .before in
+    answered (rows (e .before)) (text s) (begin s .args .out .now) (passes e) (fitting s) (p .put-wrap2 .result) (p .put-wrap2 .last .1 .1 .0) (all-written (behind-gates g) (p .put-wrap2 .ensures))
 
 pub list-spec : {M : Type 1} → statement M
 list-spec =
@@ -131,13 +171,16 @@ list-spec =
     read-requires
     enum-known-refusal
     enum-known-wires
-    fits-requires
+    is-loose-requires
     by-requires
     returns
+    fits-requires
+    by-requires-2
+    returns-2
     put-head-requires
     put-wrap-requires
     put-gates-requires
     put-wrap-requires-2
-    returns-2
+    returns-3
     same-length
-    returns-3)
+    returns-4)
