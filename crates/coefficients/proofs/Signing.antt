@@ -18,6 +18,7 @@ use Rattle.circuit.specs.Working.{AllSound, walked}
 use Rattle.running.specs.Masks.{mostWires, mostMasks}
 use Rattle.running.specs.Working.{numbersAfter, numbersFrom, Met, Unmet, At, met, metBy, sumNumbers}
 use Rattle.running.proofs.Masks.{NumbersBelow, after-below, zeros}
+use Rattle.running.proofs.Walks.{held-walked}
 use Rattle.coefficients.specs.Coefficients.{sign}
 use Rattle.coefficients.specs.Working.{entry, signedBy, turnedOf, signMet, signStep}
 
@@ -93,11 +94,6 @@ constant-walked (g ∷ gs) ms row c h =
     constant-walked gs (numbersAfter g ms) (signMet (met g ms) row) ((c + x) % 65536) (omega arith)
     ∙ (let e : ((c + x) % 65536 + n) % 65536 ≡ (c + (x + n)) % 65536 = omega arith in e)
 
-numbers-walked : (gs : List Gate) (ms row : List ℕ) (c : ℕ) → walked signStep gs (ms, row, c) .0 ≡ numbersFrom gs ms
-unfolding walked numbersFrom
-numbers-walked [] ms row c = refl
-numbers-walked (g ∷ gs) ms row c = numbers-walked gs (numbersAfter g ms) (signMet (met g ms) row) ((c + metBy turnedOf (met g ms)) % 65536)
-
 -- what the walk leaves behind that starts from nothing
 pub record Signed (gs : List Gate) (ms held row : List ℕ) (constant : ℕ) : Type 0 where
   pub holds : held ≡ numbersFrom gs ms
@@ -113,7 +109,7 @@ walk-signs w gs ms held row constant s b e =
     let r = signed-walked w gs ms none 0 s b empty in
     let second : row ≡ walked signStep gs (ms, none, 0) .1 = ap (λ (t : List ℕ × List ℕ × ℕ). t .1) e in
     record {
-      holds = ap (λ (t : List ℕ × List ℕ × ℕ). t .0) e ∙ numbers-walked gs ms none 0;
+      holds = ap (λ (t : List ℕ × List ℕ × ℕ). t .0) e ∙ held-walked signStep (λ t. t .0) (λ g t. refl) gs (ms, none, 0);
       long = ap length second ∙ r .0 .long;
       has = λ m. ≈-of (ap (λ (v : List ℕ). entry v m) second) ≈∙ r .1 m ≈∙ ≈-of (ap (_+ sumNumbers (signedAt m) gs ms) (zeros mostMasks m) ∙ zero-add (sumNumbers (signedAt m) gs ms));
       adds = ap (λ (t : List ℕ × List ℕ × ℕ). t .2) e ∙ constant-walked gs ms none 0 (omega arith) ∙ ap (_% 65536) (zero-add (sumNumbers turnedOf gs ms));

@@ -44,16 +44,12 @@ count-walked (g ∷ gs) c s x =
     ∙ three (add-assoc c (cnots (g ∷ [])) (cnots gs) ∙ ap (c +_) (sym (cnots-cons g gs))) (add-assoc s (score (g ∷ [])) (score gs) ∙ ap (s +_) (sym (score-cons g gs)))
     (add-assoc x (inverters (g ∷ [])) (inverters gs) ∙ ap (x +_) (sym (inverters-cons g gs)))
 
-pub numbers-walked : (gs : List Gate) (ms row : List ℕ) → walked sumStep gs (ms, row) .0 ≡ numbersFrom gs ms
-unfolding walked numbersFrom
-numbers-walked [] ms row = refl
-numbers-walked (g ∷ gs) ms row = numbers-walked gs (numbersAfter g ms) (addMet (met g ms) row)
-
--- the numbers alone
-pub held-walked : (gs : List Gate) (ms : List ℕ) → walked numbersAfter gs ms ≡ numbersFrom gs ms
-unfolding walked numbersFrom
-held-walked [] ms = refl
-held-walked (g ∷ gs) ms = held-walked gs (numbersAfter g ms)
+-- what the wires hold behind a walk, whatever else its state has
+module _ {S : Type 0} (step : Gate → S → S) (held : S → List ℕ) (each : (g : Gate) (s : S) → held (step g s) ≡ numbersAfter g (held s)) where
+  pub held-walked : (gs : List Gate) (s : S) → held (walked step gs s) ≡ numbersFrom gs (held s)
+  unfolding walked numbersFrom
+  held-walked [] s = refl
+  held-walked (g ∷ gs) s = held-walked gs (step g s) ∙ ap (numbersFrom gs) (each g s)
 
 -- a row of all groups' totals, each less than a turn
 record Row (row : List ℕ) : Type 0 where

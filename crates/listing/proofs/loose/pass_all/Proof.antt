@@ -67,7 +67,7 @@ returns : tie.Need-returns Inv-loop μ-loop
 returns c =
     let at = c .before in
     let a = start at .args in
-    walk-ends (a .file .now) (bytes at) (good at) (at .loop .i) (omega (arith, start at .pre .1)) numbersAfter (a .held .now) (at .loop .held) (at .loop .inv .0) ∙ held-walked (gatesOf (a .file .now)) (a .held .now)
+    walk-ends (a .file .now) (bytes at) (good at) (at .loop .i) (omega (arith, start at .pre .1)) numbersAfter (a .held .now) (at .loop .held) (at .loop .inv .0) ∙ held-walked numbersAfter (λ ns. ns) (λ g ns. refl) (gatesOf (a .file .now)) (a .held .now)
 
 pub pass-all-spec : {M : Type 1} → statement M
 pass-all-spec =
