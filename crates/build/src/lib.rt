@@ -1,4 +1,6 @@
 // Document 01, "The built circuit": Construction 1 of document 000 as a circuit file.
+#![tactic(auto)]
+
 use refusal::Refusal;
 use spectrum::Transformed;
 

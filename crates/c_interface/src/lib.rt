@@ -1,4 +1,6 @@
 // The operations for callers in C. phg.h has the rules that a caller keeps, and what the numbers say.
+#![tactic(auto)]
+
 mod told;
 
 ghost use Rattle.std.specs.Prelude.{◌≡◌, eqb, not};

@@ -1,4 +1,6 @@
 // Document 02, §9: equal CNOTs beside each other go, pair by pair.
+#![tactic(auto)]
+
 ghost use Rattle.std.specs.Prelude.{◌≡◌, ◌≤◌};
 ghost use Rattle.refusal.specs.Checks.{outcome, passed};
 ghost use Rattle.circuit.specs.File.{count_of, file_checks};

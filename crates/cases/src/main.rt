@@ -1,6 +1,8 @@
 // Runs every operation on requests from standard input and prints a line for each:
 // NAME A B ROOM FIRST SECOND: answers VALUE ..; SLICE
 // NAME A B ROOM FIRST SECOND: refused NUMBER side SIDE position POSITION reason REASON; SLICE
+#![tactic(auto)]
+
 mod lent;
 mod operation;
 mod print;

@@ -1,4 +1,6 @@
 // Document 01, "Circuit file": the file, its gates, the reader, and the writer of its parts.
+#![tactic(auto)]
+
 use refusal::Refusal;
 
 mod decoder;

@@ -1,5 +1,7 @@
 // Document 01, "Coefficients and verdict": one side summed up, a circuit or the ideal of a table. What it gives is the
 // side's coefficients, set by set, and where the listed starts end: start 0, then each wire's own.
+#![tactic(auto)]
+
 ghost use Rattle.std.specs.Prelude.{◌≡◌, replicate};
 ghost use Rattle.running.specs.Masks.{most_masks};
 

@@ -1,5 +1,7 @@
 // What a command line does. Its words are separated by a byte 0. Answers go to standard output,
 // and what is wrong with the call itself to the descriptor `errors`.
+#![tactic(auto)]
+
 mod answers;
 mod circuits;
 mod commands;

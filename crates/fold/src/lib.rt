@@ -1,4 +1,6 @@
 // Document 01, "Running, counting, folding": phase gates that meet the same mask and flip become one.
+#![tactic(auto)]
+
 ghost use Rattle.std.specs.Prelude.{◌≡◌, ◌+◌, ◌≤◌, length};
 ghost use Rattle.refusal.specs.Checks.{outcome, passed};
 ghost use Rattle.circuit.specs.File.{version_of, count_of, gates_of, file_checks};

@@ -1,4 +1,6 @@
 // Document 01, "Listing": a circuit as OpenQASM 2.0.
+#![tactic(auto)]
+
 use circuit::Reading;
 use refusal::Refusal;
 

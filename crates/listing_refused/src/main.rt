@@ -1,5 +1,7 @@
 // The listing program, on an input that is refused: reads the byte n and then the table from standard input, and prints the
 // wrapped listing of the folded circuit, or `refused N`.
+#![tactic(auto)]
+
 ghost use Rattle.std.specs.Prelude.{◌≡◌, length};
 
 use libc::{STDIN_FILENO, STDOUT_FILENO};

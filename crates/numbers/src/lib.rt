@@ -1,4 +1,6 @@
 // Document 01, "Numbers and conventions": what the other crates compute with.
+#![tactic(auto)]
+
 ghost use Rattle.std.specs.Prelude.{◌≡◌, ◌%◌, ◌^◌, length, slice_index, unsigned_abs};
 ghost use Rattle.numbers.specs.Sums.{list};
 ghost use Rattle.numbers.specs.Turn.{difference};

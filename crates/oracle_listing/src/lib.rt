@@ -1,4 +1,6 @@
 // Document 01, "Listing": what the listing program does with the bytes that it reads.
+#![tactic(auto)]
+
 ghost use Rattle.std.specs.Prelude.{◌≡◌, length};
 ghost use Rattle.oracle_listing.specs.Working.{ListsFolded};
 ghost use Rattle.oracle_listing.specs.Oracle.{variables_of, table_of, ListsOracle, Prints};

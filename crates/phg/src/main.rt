@@ -1,4 +1,6 @@
 // The command that the arguments are.
+#![tactic(auto)]
+
 
 fn main() {
     let mut line = io::large_buffer();

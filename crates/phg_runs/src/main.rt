@@ -1,4 +1,6 @@
 // Runs each command of the file `commands`, one a line, its words separated by one blank.
+#![tactic(auto)]
+
 ghost use Rattle.std.specs.Prelude.{◌≤◌, ◌<◌, length};
 ghost use Rattle.io.specs.Counts.{IsPrefixLen};
 

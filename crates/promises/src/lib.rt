@@ -1,1 +1,3 @@
 // The promises of the tender, as theorems over every crate below: proofs/.
+#![tactic(auto)]
+

@@ -1,4 +1,6 @@
 // Document 01, "Numbered refusals": the numbers by name, and what a refusal returns.
+#![tactic(auto)]
+
 ghost use Rattle.std.specs.Prelude.{◌≡◌};
 ghost use Rattle.refusal.specs.Names.{refusal};
 

@@ -1,4 +1,6 @@
 // Document 01, "Running, counting, folding": runs, counts, and the masks and flips that the wires hold.
+#![tactic(auto)]
+
 use refusal::Refusal;
 
 mod counter;

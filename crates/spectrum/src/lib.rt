@@ -1,4 +1,6 @@
 // Document 01, "Spectrum": the Walsh-Hadamard spectrum of a truth table.
+#![tactic(auto)]
+
 ghost use Rattle.std.specs.Prelude.{◌≡◌, ℕ, ◌^◌, ◌+◌, ◌<◌, ◌≤◌, length, pos, nat_abs};
 ghost use Rattle.numbers.specs.Sums.{list};
 ghost use Rattle.numbers.specs.Turn.{flip};

@@ -1,4 +1,6 @@
 // Document 01, "Numbers and conventions": packed truth tables, and refusals 1 to 3.
+#![tactic(auto)]
+
 ghost use Rattle.std.specs.Prelude.{◌≡◌, ◌^◌, ◌-◌, ◌≤◌, ◌<◌, min, get_or};
 ghost use Rattle.numbers.specs.Bits.{bit};
 ghost use Rattle.table.specs.Table.{value_at, Checks};

@@ -1,4 +1,6 @@
 // Document 01, "Coefficients and verdict": whether two circuits, or a circuit and a table, do the same.
+#![tactic(auto)]
+
 use refusal::Refusal;
 
 // both sides summed up

@@ -41,13 +41,13 @@ module _ (x : ℤ) (f : SFits w32 x) where
 below : (c : tie.Then1) → let x = c.before.args.x in Below x (negsuc 0 -ℤ to_z w32 (of_z w32 x))
 below c = negative c.before.args.x c.before.ranges.x c.if1.true
 
-sub-result : tie.Need-overflow-sub-result
+sub-result : tie.Need-overflow_sub-result
 sub-result c = (below c).ranges
 
-cast-result : tie.Need-overflow-cast-result
+cast-result : tie.Need-overflow_cast-result
 cast-result c = (below c).casts
 
-add-result : tie.Need-overflow-add-result
+add-result : tie.Need-overflow_add-result
 add-result c = (below c).one_more
 
 cast-result-2 : tie.Need-overflow-cast-result-2

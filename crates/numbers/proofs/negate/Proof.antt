@@ -24,7 +24,7 @@ mul-angle c = omega arith
 slice-read-angle : tie.Need-slice-read-angle invariant-loop decreases-loop
 slice-read-angle c = omega arith
 
-wrapping-sub-u16-requires : tie.Need-wrapping-sub-u16-requires invariant-loop decreases-loop
+wrapping-sub-u16-requires : tie.Need-wrapping_sub_u16-requires invariant-loop decreases-loop
 wrapping-sub-u16-requires c κs = search rules
 
 mul-row : tie.Need-overflow-mul-row invariant-loop decreases-loop
@@ -33,7 +33,7 @@ mul-row c = omega arith
 slice-write-row : tie.Need-slice-write-row invariant-loop decreases-loop
 slice-write-row c = omega arith
 
-add-k : tie.Need-overflow-add-k invariant-loop decreases-loop
+add-k : tie.Need-overflow_add-k invariant-loop decreases-loop
 add-k c = omega arith
 
 loop-less : tie.Need-loop-smaller invariant-loop decreases-loop

@@ -3,7 +3,7 @@ use native.Mathlib.Nat.{mul-mod_left}
 use Rattle.numbers.proofs.power.Statement.{statement}
 use Rattle.numbers.proofs.power.Tie as tie
 
-shl-result : tie.Need-overflow-shl-result
+shl-result : tie.Need-overflow_shl-result
 shl-result c = search rules
 
 returns : tie.Need-returns
