@@ -9,26 +9,46 @@ use Rattle.coefficients.proofs.Answers.{sums_passed}
 use Rattle.coefficients.proofs.summary.summarise.Goals as goal
 
 pub add_gates-constant-requires : goal.add_gates-constant-requires
-add_gates-constant-requires c = let a = c.args in
-    (passes_anywhere a.side 0 a.file.now (let a = c.args in read_answers a.side a.file.now c.read_side.result c.read_side.ensures c.in-Circuit.wires c.in-Circuit.gates c.in-Circuit.is).passes, (let a = c.args in read_answers a.side a.file.now c.read_side.result c.read_side.ensures c.in-Circuit.wires c.in-Circuit.gates c.in-Circuit.is).count)
+add_gates-constant-requires c =
+    let a = c.args in
+    let read = read_answers a.side a.file.now c.read_side.result c.read_side.ensures c.in-Circuit.wires c.in-Circuit.gates c.in-Circuit.is in
+    (passes_anywhere a.side 0 a.file.now read.passes, read.count)
 
 pub slice_bounds-signed-end : goal.slice_bounds-signed-end
-slice_bounds-signed-end c = omega (arith, (size_fits (let a = c.args in file_walked a.side a.file.now c.in-Circuit.wires c.in-Circuit.gates (let a = c.args in read_answers a.side a.file.now c.read_side.result c.read_side.ensures c.in-Circuit.wires c.in-Circuit.gates c.in-Circuit.is) (λ j. (c.type_inv.file j).fits) c.own_held-held.result c.empty-signed.result _ _ _ c.own_held-held.ensures c.empty-signed.ensures c.add_gates-constant.ensures) c.power-size.result c.power-size.ensures), row_long (let a = c.args in file_walked a.side a.file.now c.in-Circuit.wires c.in-Circuit.gates (let a = c.args in read_answers a.side a.file.now c.read_side.result c.read_side.ensures c.in-Circuit.wires c.in-Circuit.gates c.in-Circuit.is) (λ j. (c.type_inv.file j).fits) c.own_held-held.result c.empty-signed.result _ _ _ c.own_held-held.ensures c.empty-signed.ensures c.add_gates-constant.ensures))
+slice_bounds-signed-end c =
+    let a = c.args in
+    let read = read_answers a.side a.file.now c.read_side.result c.read_side.ensures c.in-Circuit.wires c.in-Circuit.gates c.in-Circuit.is in
+    let walk = file_walked a.side a.file.now c.in-Circuit.wires c.in-Circuit.gates read (λ j. (c.type_inv.file j).fits) c.own_held-held.result c.empty-signed.result _ _ _ c.own_held-held.ensures c.empty-signed.ensures c.add_gates-constant.ensures in
+    omega (arith, size_fits walk c.power-size.result c.power-size.ensures, row_long walk)
 
 pub slice_bounds-put_coefficients-end : goal.slice_bounds-put_coefficients-end
-slice_bounds-put_coefficients-end c = sym (part_long (let a = c.args in file_walked a.side a.file.now c.in-Circuit.wires c.in-Circuit.gates (let a = c.args in read_answers a.side a.file.now c.read_side.result c.read_side.ensures c.in-Circuit.wires c.in-Circuit.gates c.in-Circuit.is) (λ j. (c.type_inv.file j).fits) c.own_held-held.result c.empty-signed.result _ _ _ c.own_held-held.ensures c.empty-signed.ensures c.add_gates-constant.ensures) c.power-size.result c.power-size.ensures)
+slice_bounds-put_coefficients-end c =
+    let a = c.args in
+    let read = read_answers a.side a.file.now c.read_side.result c.read_side.ensures c.in-Circuit.wires c.in-Circuit.gates c.in-Circuit.is in
+    let walk = file_walked a.side a.file.now c.in-Circuit.wires c.in-Circuit.gates read (λ j. (c.type_inv.file j).fits) c.own_held-held.result c.empty-signed.result _ _ _ c.own_held-held.ensures c.empty-signed.ensures c.add_gates-constant.ensures in
+    sym (part_long walk c.power-size.result c.power-size.ensures)
 
 pub slice_bounds-held-end : goal.slice_bounds-held-end
-slice_bounds-held-end c = let k = (let a = c.args in file_walked a.side a.file.now c.in-Circuit.wires c.in-Circuit.gates (let a = c.args in read_answers a.side a.file.now c.read_side.result c.read_side.ensures c.in-Circuit.wires c.in-Circuit.gates c.in-Circuit.is) (λ j. (c.type_inv.file j).fits) c.own_held-held.result c.empty-signed.result _ _ _ c.own_held-held.ensures c.empty-signed.ensures c.add_gates-constant.ensures) in omega (arith, wires_held k, k.read.wires, k.read.file.few)
+slice_bounds-held-end c =
+    let a = c.args in
+    let read = read_answers a.side a.file.now c.read_side.result c.read_side.ensures c.in-Circuit.wires c.in-Circuit.gates c.in-Circuit.is in
+    let walk = file_walked a.side a.file.now c.in-Circuit.wires c.in-Circuit.gates read (λ j. (c.type_inv.file j).fits) c.own_held-held.result c.empty-signed.result _ _ _ c.own_held-held.ensures c.empty-signed.ensures c.add_gates-constant.ensures in
+    omega (arith, wires_held walk, walk.read.wires, walk.read.file.few)
 
 pub slice_bounds-put_ends-end : goal.slice_bounds-put_ends-end
-slice_bounds-put_ends-end c = sym (part_held (let a = c.args in file_walked a.side a.file.now c.in-Circuit.wires c.in-Circuit.gates (let a = c.args in read_answers a.side a.file.now c.read_side.result c.read_side.ensures c.in-Circuit.wires c.in-Circuit.gates c.in-Circuit.is) (λ j. (c.type_inv.file j).fits) c.own_held-held.result c.empty-signed.result _ _ _ c.own_held-held.ensures c.empty-signed.ensures c.add_gates-constant.ensures))
+slice_bounds-put_ends-end c =
+    let a = c.args in
+    let read = read_answers a.side a.file.now c.read_side.result c.read_side.ensures c.in-Circuit.wires c.in-Circuit.gates c.in-Circuit.is in
+    let walk = file_walked a.side a.file.now c.in-Circuit.wires c.in-Circuit.gates read (λ j. (c.type_inv.file j).fits) c.own_held-held.result c.empty-signed.result _ _ _ c.own_held-held.ensures c.empty-signed.ensures c.add_gates-constant.ensures in
+    sym (part_held walk)
 
 pub returns-in-Circuit : goal.returns-in-Circuit
-returns-in-Circuit c = let k = (let a = c.args in file_walked a.side a.file.now c.in-Circuit.wires c.in-Circuit.gates (let a = c.args in read_answers a.side a.file.now c.read_side.result c.read_side.ensures c.in-Circuit.wires c.in-Circuit.gates c.in-Circuit.is) (λ j. (c.type_inv.file j).fits) c.own_held-held.result c.empty-signed.result _ _ _ c.own_held-held.ensures c.empty-signed.ensures c.add_gates-constant.ensures) in
+returns-in-Circuit c =
     let a = c.args in
     let f = a.file.now in
+    let read = read_answers a.side a.file.now c.read_side.result c.read_side.ensures c.in-Circuit.wires c.in-Circuit.gates c.in-Circuit.is in
+    let walk = file_walked a.side a.file.now c.in-Circuit.wires c.in-Circuit.gates read (λ j. (c.type_inv.file j).fits) c.own_held-held.result c.empty-signed.result _ _ _ c.own_held-held.ensures c.empty-signed.ensures c.add_gates-constant.ensures in
     sums_passed reading_says (outcome (file_checks a.side f)) (wires_of f ∷ count_of f ∷ []) (coefficients (wires_of f) (gates_of f)) (listed_ends (wires_of f) (gates_of f)) a.row.now a.ends.now _ _ _
-    (ap₂ (λ (w n : ℕ). values (w ∷ n ∷ [])) k.read.wires k.read.count) k.read.passes
-    (coefficients_put k c.power-size.result c.power-size.ensures a.row.now _ (λ n q. c.put_coefficients.ensures n ((part_long (let a = c.args in file_walked a.side a.file.now c.in-Circuit.wires c.in-Circuit.gates (let a = c.args in read_answers a.side a.file.now c.read_side.result c.read_side.ensures c.in-Circuit.wires c.in-Circuit.gates c.in-Circuit.is) (λ j. (c.type_inv.file j).fits) c.own_held-held.result c.empty-signed.result _ _ _ c.own_held-held.ensures c.empty-signed.ensures c.add_gates-constant.ensures) c.power-size.result c.power-size.ensures) ∙ q)))
-    (ends_put k a.ends.now _ c.put_ends.ensures)
+    (ap₂ (λ (w n : ℕ). values (w ∷ n ∷ [])) walk.read.wires walk.read.count) walk.read.passes
+    (coefficients_put walk c.power-size.result c.power-size.ensures a.row.now _ (λ n q. c.put_coefficients.ensures n (part_long walk c.power-size.result c.power-size.ensures ∙ q)))
+    (ends_put walk a.ends.now _ c.put_ends.ensures)
