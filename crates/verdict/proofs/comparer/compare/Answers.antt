@@ -20,8 +20,8 @@ returns-in-Refused c =
 
 pub judge_summaries-requires : goal.judge_summaries-requires
 judge_summaries-requires c =
-    let first = file_sums 0 c.args.first.now _ _ c.summarise.result _ _ c.summarise.ensures c.empty-first_row.ensures refl c.in-Circuit.wires c.in-Circuit.gates c.in-Circuit.is in
-    let second = file_sums 1 c.args.second.now _ _ c.summarise-2.result _ _ c.summarise-2.ensures c.empty-second_row.ensures refl c.in-Circuit-summarise.width c.in-Circuit-summarise.gates c.in-Circuit-summarise.is in
+    let first = file_sums _ c.args.first.now _ _ c.summarise.result _ _ c.summarise.ensures c.empty-first_row.ensures refl c.in-Circuit.wires c.in-Circuit.gates c.in-Circuit.is in
+    let second = file_sums _ c.args.second.now _ _ c.summarise-2.result _ _ c.summarise-2.ensures c.empty-second_row.ensures refl c.in-Circuit-summarise.width c.in-Circuit-summarise.gates c.in-Circuit-summarise.is in
     (first.holds, second.holds)
 
 pub returns-in-Refused-summarise : goal.returns-in-Refused-summarise

@@ -27,7 +27,7 @@ overflow_add-n c =
 pub judge_summaries-requires : goal.judge_summaries-requires
 judge_summaries-requires c =
     let table = table_sums c.args.n c.args.table.now _ _ c.summarise_ideal.result _ _ c.summarise_ideal.ensures c.empty-ideal_row.ensures refl c.in_default.is in
-    let file = file_sums 0 c.args.file.now _ _ c.summarise.result _ _ c.summarise.ensures c.empty-row.ensures refl c.in-Circuit.wires c.in-Circuit.gates c.in-Circuit.is in
+    let file = file_sums _ c.args.file.now _ _ c.summarise.result _ _ c.summarise.ensures c.empty-row.ensures refl c.in-Circuit.wires c.in-Circuit.gates c.in-Circuit.is in
     (file.holds, table.holds)
 
 pub returns-in-Refused-summarise : goal.returns-in-Refused-summarise
