@@ -14,7 +14,7 @@ pub use reader::{read, read_side};
 pub use writer::{put_gate, put_header, put_header_of};
 
 // A gate is one of CNOT or phase; in a file of version 2 it may be an inverter (02 §12).
-#[derive(Drop)]
+#[derive(Clone, Copy)]
 pub enum Gate {
     Cnot { control: u8, target: u8 },
     Phase { wire: u8, angle: u16 },
@@ -22,14 +22,14 @@ pub enum Gate {
 }
 
 // A gate with its position from 0.
-#[derive(Drop)]
+#[derive(Clone, Copy)]
 pub struct Placed {
     pub position: usize,
     pub gate: Gate,
 }
 
 // What is wrong with a bad gate: its kind, a wire, equal wires or the spare byte.
-#[derive(Drop)]
+#[derive(Clone, Copy)]
 pub enum Reason {
     Kind,
     Wire,
@@ -37,7 +37,7 @@ pub enum Reason {
     Spare,
 }
 
-#[derive(Drop)]
+#[derive(Clone, Copy)]
 pub enum Decoded {
     Good(Placed),
     Bad(Reason),

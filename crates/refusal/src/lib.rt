@@ -37,7 +37,7 @@ pub const ALLOW: u8 = 18;
 
 // `side` says which of a call's several like inputs is refused, from 0; `position` is that of the
 // first bad gate and `reason` what is wrong with it, both 0 for every number but GATE.
-#[derive(Drop)]
+#[derive(Clone, Copy)]
 pub struct Refusal {
     pub number: u8,
     pub side: u8,

@@ -1,5 +1,5 @@
 -- One gate of each walk, as the code does it.
-use Rattle.std.proofs.Common.{◌≡◌, ℕ, zero, suc, ◌+◌, ◌*◌, ◌%◌, ◌^◌, ◌<◌, ◌≤◌, List, [], ◌∷◌, length, get_or, sym, refl, ap, ◌∙◌, subst, ap₂, mod-eq_of_lt, one-mul, arith, length-set}
+use Rattle.std.proofs.Common.{◌≡◌, ℕ, zero, suc, ◌+◌, ◌*◌, ◌%◌, ◌^◌, ◌<◌, ◌≤◌, [], ◌∷◌, ap, ◌∙◌, subst, ap₂, mod-eq_of_lt, one-mul, arith}
 use lib.Bits.{bit_xor}
 use Rattle.numbers.specs.Bits.{bit}
 use Rattle.circuit.specs.declared.Gate.{Gate}

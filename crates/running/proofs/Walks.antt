@@ -15,7 +15,7 @@ use Rattle.circuit.proofs.Files.{file_sound}
 use Rattle.running.specs.Run.{stepped, added, end_from, total_from, cnots, score_by, score, inverters}
 use Rattle.running.specs.Masks.{most_wires}
 use Rattle.running.specs.Groups.{group_total}
-use Rattle.running.specs.Working.{held_of, most_groups, totals_of, own_numbers, numbers_after, numbers_from, At, met, sum_numbers, run_step, count_step, add_met, sum_step}
+use Rattle.running.specs.Working.{held_of, most_groups, totals_of, own_numbers, numbers_after, numbers_from, At, sum_numbers, run_step, count_step, add_met, sum_step}
 use Rattle.running.proofs.Counts.{cnots_cons, score_cons, inverters_cons}
 use Rattle.running.proofs.Masks.{NumbersBelow, own_below, after_below, own_alike, sum_alike, zeros}
 use Rattle.running.proofs.Held.{total_number}

@@ -1,5 +1,5 @@
 -- 01, "Running, counting, folding": "Each wire holds a parity of the starting bits: a mask."; 02 §12, "A wire now holds a mask and a flip."
-use Rattle.std.specs.Prelude.{ℕ, ◌+◌, ◌*◌, ◌/◌, ◌%◌, ◌^◌, List, [], ◌∷◌, bit_xor, slice_index_or, slice_set}
+use Rattle.std.specs.Prelude.{ℕ, ◌+◌, ◌%◌, ◌^◌, List, [], ◌∷◌, bit_xor, slice_index_or, slice_set}
 use Rattle.numbers.specs.Sums.{list}
 use Rattle.circuit.specs.declared.Gate.{Gate}
 use Rattle.circuit.specs.declared.Gate.TheVariants.{Cnot, Phase, Inverter}

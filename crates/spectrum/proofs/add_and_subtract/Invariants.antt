@@ -1,0 +1,11 @@
+use Prim.Native.Nat.{ℕ, ◌-◌, ◌<◌}
+use mathlib.Core.Path.{◌≡◌, subst}
+use native.Mathlib.Omega.{arith}
+use Rattle.spectrum.proofs.Adding.{Adding, adding_starts, pair_fits, adding_again, adding_ends}
+use Rattle.spectrum.proofs.add_and_subtract.Given as goal
+
+abbrev pub invariant-loop-i : goal.invariant-loop-i
+invariant-loop-i l = Adding l.half l.initial.v l.v l.i
+
+abbrev pub decreases-loop-i : goal.decreases-loop-i
+decreases-loop-i l = l.half - l.i

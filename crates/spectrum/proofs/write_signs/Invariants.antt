@@ -1,0 +1,21 @@
+use Prim.Native.Nat.{ℕ, ◌-◌, ◌≤◌}
+use mathlib.Core.Path.{◌≡◌, refl, ap, ◌∙◌}
+use native.Mathlib.Omega.{arith}
+use mathlib.Core.List.{List}
+use lib.ListN.{length, length-set}
+use lib.IntN.{ℤ, pos}
+use borrow.Author.Rules.{rules}
+use Rattle.numbers.specs.Turn.{flip}
+use Rattle.numbers.proofs.Lists.{filled, fill_again, fill_ends}
+use Rattle.spectrum.proofs.Words.{sign_stays}
+use Rattle.table.specs.Table.{value_at}
+use Rattle.spectrum.proofs.write_signs.Given as goal
+
+abbrev pub sign_of : List ℕ → ℕ → ℤ
+sign_of table x = flip (value_at table x) (pos 1)
+
+abbrev pub invariant-loop-x : goal.invariant-loop-x
+invariant-loop-x l = (l.x ≤ length l.initial.out) × (length l.out ≡ length l.initial.out) × (l.out ≡ filled l.x (sign_of l.table) l.initial.out)
+
+abbrev pub decreases-loop-x : goal.decreases-loop-x
+decreases-loop-x l = length l.initial.out - l.x
