@@ -1,7 +1,5 @@
-use Prim.Native.Nat.{ℕ, ◌-◌, ◌<◌}
-use mathlib.Core.Path.{◌≡◌, subst}
-use native.Mathlib.Omega.{arith}
-use Rattle.spectrum.proofs.Adding.{Adding, adding_starts, pair_fits, adding_again, adding_ends}
+use Prim.Native.Nat.{◌-◌}
+use Rattle.spectrum.proofs.Adding.{Adding}
 use Rattle.spectrum.proofs.add_and_subtract.Given as goal
 
 abbrev pub invariant-loop-i : goal.invariant-loop-i

@@ -1,13 +1,10 @@
 use Prim.Native.Nat.{ℕ, ◌-◌, ◌≤◌}
-use mathlib.Core.Path.{◌≡◌, refl, ap, ◌∙◌}
-use native.Mathlib.Omega.{arith}
+use mathlib.Core.Path.{◌≡◌}
 use mathlib.Core.List.{List}
-use lib.ListN.{length, length-set}
+use lib.ListN.{length}
 use lib.IntN.{ℤ, pos}
-use borrow.Author.Rules.{rules}
 use Rattle.numbers.specs.Turn.{flip}
-use Rattle.numbers.proofs.Lists.{filled, fill_again, fill_ends}
-use Rattle.spectrum.proofs.Words.{sign_stays}
+use Rattle.numbers.proofs.Lists.{filled}
 use Rattle.table.specs.Table.{value_at}
 use Rattle.spectrum.proofs.write_signs.Given as goal
 
