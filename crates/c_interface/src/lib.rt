@@ -1,4 +1,4 @@
-// The operations for callers in C. phg.h has the rules that a caller keeps, and what the numbers say.
+// The operations as a caller in C finds them: each answer is six numbers. phg.h says what they mean; c_interface_c exports them.
 #![tactic(auto)]
 
 mod told;
@@ -17,30 +17,26 @@ ghost use Rattle.listing.specs.Listing.{listed_says, Lists};
 ghost use Rattle.oracle_listing.specs.Oracle.{ListsOracle};
 ghost use Rattle.c_interface.specs.Numbers.{Tells, TellsAnswer, decoded_numbers};
 
-#[unsafe(no_mangle)]
-pub extern "C" fn phg_check(n: u8, table: &[u8], answer: &mut [u64; 6])
+pub fn phg_check(n: u8, table: &[u8], answer: &mut [u64; 6])
     ensures { TellsAnswer (Checks n table.now) checked_says answer.new }
 {
     *answer = told::checked(table::check(n, table));
 }
 
 // f(x); 0 past the table's end.
-#[unsafe(no_mangle)]
-pub extern "C" fn phg_value(table: &[u8], x: usize) -> u8
+pub fn phg_value(table: &[u8], x: usize) -> u8
     ensures { result ≡ value_at table.now x }
 {
     table::value(table, x)
 }
 
-#[unsafe(no_mangle)]
-pub extern "C" fn phg_spectrum(n: u8, table: &[u8], out: &mut [i32], answer: &mut [u64; 6])
+pub fn phg_spectrum(n: u8, table: &[u8], out: &mut [i32], answer: &mut [u64; 6])
     ensures { Tells (Transforms n table.now out.old) transformed_says answer.new out.new }
 {
     *answer = told::transformed(spectrum::spectrum(n, table, out));
 }
 
-#[unsafe(no_mangle)]
-pub extern "C" fn phg_decode(
+pub fn phg_decode(
     version: u16,
     w: u8,
     position: usize,
@@ -55,57 +51,49 @@ pub extern "C" fn phg_decode(
     *answer = told::decoded(circuit::decode(version, w, position, kind, a, b, c));
 }
 
-#[unsafe(no_mangle)]
-pub extern "C" fn phg_read(file: &[u8], answer: &mut [u64; 6])
+pub fn phg_read(file: &[u8], answer: &mut [u64; 6])
     ensures { TellsAnswer (Reads file.now) reading_says answer.new }
 {
     *answer = told::reading(circuit::read(file));
 }
 
-#[unsafe(no_mangle)]
-pub extern "C" fn phg_run(file: &[u8], start: u16, answer: &mut [u64; 6])
+pub fn phg_run(file: &[u8], start: u16, answer: &mut [u64; 6])
     ensures { TellsAnswer (Runs file.now start) ran_says answer.new }
 {
     *answer = told::ran(running::run(file, start));
 }
 
-#[unsafe(no_mangle)]
-pub extern "C" fn phg_count(file: &[u8], answer: &mut [u64; 6])
+pub fn phg_count(file: &[u8], answer: &mut [u64; 6])
     ensures { TellsAnswer (Counts file.now) counted_says answer.new }
 {
     *answer = told::counted(running::count(file));
 }
 
-#[unsafe(no_mangle)]
-pub extern "C" fn phg_build(n: u8, table: &[u8], out: &mut [u8], answer: &mut [u64; 6])
+pub fn phg_build(n: u8, table: &[u8], out: &mut [u8], answer: &mut [u64; 6])
     ensures { Tells (Builds n table.now out.old) built_says answer.new out.new }
 {
     *answer = told::built(build::build(n, table, out));
 }
 
-#[unsafe(no_mangle)]
-pub extern "C" fn phg_fold(file: &[u8], out: &mut [u8], answer: &mut [u64; 6])
+pub fn phg_fold(file: &[u8], out: &mut [u8], answer: &mut [u64; 6])
     ensures { Tells (Folds file.now out.old) folded_says answer.new out.new }
 {
     *answer = told::folded(fold::fold(file, out));
 }
 
-#[unsafe(no_mangle)]
-pub extern "C" fn phg_cancel(file: &[u8], most: u16, out: &mut [u8], answer: &mut [u64; 6])
+pub fn phg_cancel(file: &[u8], most: u16, out: &mut [u8], answer: &mut [u64; 6])
     ensures { Tells (Cancels file.now most out.old) cancelled_says answer.new out.new }
 {
     *answer = told::cancelled(cancel::cancel(file, most, out));
 }
 
-#[unsafe(no_mangle)]
-pub extern "C" fn phg_compare(first: &[u8], second: &[u8], work: &mut [u16], answer: &mut [u64; 6])
+pub fn phg_compare(first: &[u8], second: &[u8], work: &mut [u16], answer: &mut [u64; 6])
     ensures { Tells (Compares first.now second.now work.old) compared_says answer.new work.new }
 {
     *answer = told::compared(verdict::compare(first, second, work));
 }
 
-#[unsafe(no_mangle)]
-pub extern "C" fn phg_judge(
+pub fn phg_judge(
     n: u8,
     table: &[u8],
     file: &[u8],
@@ -118,15 +106,13 @@ pub extern "C" fn phg_judge(
 }
 
 // Wrapped where `wrapped` is not 0.
-#[unsafe(no_mangle)]
-pub extern "C" fn phg_list(file: &[u8], wrapped: u8, out: &mut [u8], answer: &mut [u64; 6])
+pub fn phg_list(file: &[u8], wrapped: u8, out: &mut [u8], answer: &mut [u64; 6])
     ensures { Tells (Lists (not (eqb wrapped 0)) file.now out.old) listed_says answer.new out.new }
 {
     *answer = told::listed(listing::list(file, wrapped != 0, out));
 }
 
-#[unsafe(no_mangle)]
-pub extern "C" fn phg_list_oracle(n: u8, table: &[u8], out: &mut [u8], answer: &mut [u64; 6])
+pub fn phg_list_oracle(n: u8, table: &[u8], out: &mut [u8], answer: &mut [u64; 6])
     ensures { Tells (ListsOracle n table.now out.old) listed_says answer.new out.new }
 {
     *answer = told::listed(oracle_listing::of_table(n, table, out));

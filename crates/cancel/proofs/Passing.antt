@@ -16,7 +16,7 @@ use Rattle.circuit.specs.File.{count_of, gates_of}
 use Rattle.circuit.specs.Working.{said_at}
 use Rattle.circuit.proofs.Callers.{GoodFile}
 use Rattle.circuit.proofs.Files.{gate_said_lem, gates_end, length-gates}
-use Rattle.cancel.specs.Cancel.{twins, cancelled, steps}
+use Rattle.cancel.specs.Cancel.{twins, cancelled}
 use Rattle.cancel.specs.Working.{gates_at, stack, meets, Remains}
 use Rattle.cancel.proofs.Removing.{never}
 use Rattle.cancel.proofs.Steps.{falls_by_two}

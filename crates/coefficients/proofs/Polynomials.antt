@@ -13,7 +13,6 @@ use Rattle.numbers.proofs.Turns.{≈-of, ≈-mod, ≈_sym, ≈-add, ≈-mul, ≈
 use Rattle.circuit.specs.declared.Gate.{Gate}
 use Rattle.circuit.specs.Working.{AllSound}
 use Rattle.running.specs.Run.{total_from, phase_from}
-use Rattle.running.specs.Masks.{Held}
 use Rattle.running.specs.Working.{own_numbers, sum_numbers, start_of}
 use Rattle.running.proofs.Masks.{own_below, dot_start, total_parity}
 use Rattle.running.proofs.Held.{sum_number}

@@ -4,7 +4,7 @@ use Rattle.numbers.specs.Bits.{bit, subset}
 use Rattle.numbers.specs.Sums.{sum, list}
 use Rattle.circuit.specs.declared.Gate.{Gate}
 use Rattle.running.specs.Run.{end_from}
-use Rattle.running.specs.Masks.{Held, own_held, sum_met}
+use Rattle.running.specs.Masks.{own_held, sum_met}
 
 -- 02 §12, "A phase of a on a flipped mask adds .. minus a on the mask": -1 is 65,535
 abbrev pub sign : ℕ → ℕ

@@ -1,5 +1,5 @@
 -- What the working computes on the way to a summary; the laws show that it is the paper's.
-use Rattle.std.specs.Prelude.{◌≡◌, ℕ, zero, suc, ◌+◌, ◌*◌, ◌/◌, ◌%◌, ◌^◌, ◌<◌, ◌≤◌, Bool, true, false, ◌⊎◌, List, ◌++◌, length, take, drop, set, bit_xor, count_ones, slice_index, slice_set}
+use Rattle.std.specs.Prelude.{◌≡◌, ℕ, zero, suc, ◌+◌, ◌*◌, ◌/◌, ◌%◌, ◌^◌, ◌<◌, ◌≤◌, Bool, true, false, ◌⊎◌, List, ◌++◌, length, take, drop, bit_xor, count_ones, slice_index, slice_set}
 use Rattle.numbers.specs.Bits.{bit, subset}
 use Rattle.numbers.specs.Turn.{difference}
 use Rattle.numbers.specs.Sums.{sum, list}

@@ -1,0 +1,96 @@
+use Rattle.std.proofs.Common.{◌≡◌, ℕ, ◌+◌, ◌^◌, ◌<◌, ◌≤◌, List, ◌++◌, length, drop, ℤ, sym, ◌∙◌, arith, pow_mono}
+use Rattle.refusal.specs.Checks.{passed, outcome}
+use Rattle.numbers.proofs.Powers.{power_fits}
+use Rattle.table.specs.Table.{table_checks}
+use Rattle.table.proofs.Callers.{good_variables}
+use Rattle.spectrum.specs.declared.Transformed.{Transformed}
+use Rattle.spectrum.specs.declared.Transformed.TheVariants.{Entries}
+use Rattle.spectrum.specs.Spectrum.{spectrum_of, Transforms}
+use Rattle.spectrum.proofs.Callers.{spectrum_room, spectrum_answers, spectrum_refuses}
+use Rattle.build.proofs.Answers.{zeros, table_fails, room_fails, answered, row_size, leaves_file}
+use Rattle.build.proofs.build.Goals as goal
+
+-- the table is good, and its spectrum stands in the local row
+record Told (n : ℕ) (t : List ℕ) (row : List ℤ) : Type 0 where
+  good : outcome (table_checks n t) ≡ passed
+  some : 0 < n
+  small : n ≤ 8
+  entries : row ≡ spectrum_of n t ++ drop (length (spectrum_of n t)) zeros
+
+told : (n : ℕ) (t : List ℕ) (row : List ℤ) (a : Transformed) → Transforms n t zeros a row → (k : ℕ) → a ≡ Entries k → Told n t row
+told n t row a meets k e =
+    let v = spectrum_answers n t zeros a row meets k e in
+    let good : outcome (table_checks n t) ≡ passed = sym (spectrum_room n t 256 (omega arith)) ∙ v.0 in
+    let variables = good_variables n t good in
+    record { good = good; some = variables.0; small = variables.1; entries = v.2 }
+
+pub returns-in-Refused : goal.returns-in-Refused
+returns-in-Refused c =
+    let a = c.args in
+    let q = c.spectrum in
+    let r = c.in-Refused.r in
+    table_fails a.n a.table.now a.out.now r (sym (spectrum_room a.n a.table.now 256 (omega arith)) ∙ (spectrum_refuses a.n a.table.now zeros q.result q.new.out q.ensures r c.in-Refused.is).0)
+
+pub overflow_add-n : goal.overflow_add-n
+overflow_add-n c =
+    let a = c.args in
+    omega (arith, (told a.n a.table.now c.spectrum.new.out c.spectrum.result c.spectrum.ensures c.in_default.field-0 c.in_default.is).small)
+
+pub returns-then-out-file : goal.returns-then-out-file
+returns-then-out-file c =
+    let a = c.args in
+    let t = told a.n a.table.now c.spectrum.new.out c.spectrum.result c.spectrum.ensures c.in_default.field-0 c.in_default.is in
+    let long : c.power-file.result ≡ 2 ^ (a.n + 4) = c.power-file.ensures ∙ power_fits (omega (arith, t.small)) in
+    room_fails a.n a.table.now a.out.now t.good (omega arith) c.by.result c.by.ensures
+
+pub write_angles-requires-clause-n_bound : goal.write_angles-requires-clause-n_bound
+write_angles-requires-clause-n_bound c =
+    let a = c.args in
+    (told a.n a.table.now c.spectrum.new.out c.spectrum.result c.spectrum.ensures c.in_default.field-0 c.in_default.is).small
+
+pub write_angles-requires-clause-by_index : goal.write_angles-requires-clause-by_index
+write_angles-requires-clause-by_index c =
+    let a = c.args in
+    let t = told a.n a.table.now c.spectrum.new.out c.spectrum.result c.spectrum.ensures c.in_default.field-0 c.in_default.is in
+    row_size a.n a.table.now t.small c.spectrum.new.out t.entries
+
+pub write_file-requires-clause-n_nonzero : goal.write_file-requires-clause-n_nonzero
+write_file-requires-clause-n_nonzero c =
+    let a = c.args in
+    (told a.n a.table.now c.spectrum.new.out c.spectrum.result c.spectrum.ensures c.in_default.field-0 c.in_default.is).some
+
+pub write_file-requires-clause-n_bound : goal.write_file-requires-clause-n_bound
+write_file-requires-clause-n_bound c =
+    let a = c.args in
+    (told a.n a.table.now c.spectrum.new.out c.spectrum.result c.spectrum.ensures c.in_default.field-0 c.in_default.is).small
+
+pub write_file-requires-clause-n_in_bounds : goal.write_file-requires-clause-n_in_bounds
+write_file-requires-clause-n_in_bounds c =
+    let a = c.args in
+    let t = told a.n a.table.now c.spectrum.new.out c.spectrum.result c.spectrum.ensures c.in_default.field-0 c.in_default.is in
+    let w : 2 ^ a.n ≤ 2 ^ 8 = pow_mono {i = a.n} {j = 8} t.small in
+    omega (arith, c.write_angles.auto.out)
+
+pub write_file-requires-clause-n_in_bounds_2 : goal.write_file-requires-clause-n_in_bounds_2
+write_file-requires-clause-n_in_bounds_2 c =
+    let a = c.args in
+    let t = told a.n a.table.now c.spectrum.new.out c.spectrum.result c.spectrum.ensures c.in_default.field-0 c.in_default.is in
+    let w : 2 ^ a.n ≤ 2 ^ 8 = pow_mono {i = a.n} {j = 8} t.small in
+    omega (arith, c.write_angles.auto.out, c.negate.auto.row)
+
+pub write_file-requires-clause-n_in_bounds_3 : goal.write_file-requires-clause-n_in_bounds_3
+write_file-requires-clause-n_in_bounds_3 c =
+    let a = c.args in
+    let t = told a.n a.table.now c.spectrum.new.out c.spectrum.result c.spectrum.ensures c.in_default.field-0 c.in_default.is in
+    let long : c.power-file.result ≡ 2 ^ (a.n + 4) = c.power-file.ensures ∙ power_fits (omega (arith, t.small)) in
+    omega (arith, c.if-out-file.false)
+
+pub returns : goal.returns
+returns c =
+    let a = c.args in
+    let t = told a.n a.table.now c.spectrum.new.out c.spectrum.result c.spectrum.ensures c.in_default.field-0 c.in_default.is in
+    let long : c.power-file.result ≡ 2 ^ (a.n + 4) = c.power-file.ensures ∙ power_fits (omega (arith, t.small)) in
+    let roomy : 2 ^ (a.n + 4) ≤ length a.out.now = omega (arith, c.if-out-file.false) in
+    let after = c.write_file.new.out in
+    answered a.n a.table.now a.out.now t.good roomy c.power-file.result long after
+    (leaves_file a.n a.table.now t.small c.spectrum.new.out t.entries c.write_angles.new.out c.negate.new.row 256 (omega arith) c.write_angles.ensures c.negate.ensures t.some a.out.now after roomy c.write_file.ensures)

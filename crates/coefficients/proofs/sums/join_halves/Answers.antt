@@ -1,0 +1,14 @@
+use Rattle.std.proofs.Common.{Bool, sym, ap, ◌∙◌}
+use Rattle.coefficients.specs.Working.{joined}
+use Rattle.coefficients.proofs.Adding.{joined_up, joined_down}
+use Rattle.coefficients.proofs.sums.join_halves.Goals as goal
+
+pub returns-then-up : goal.returns-then-up
+returns-then-up c = let a = c.args in
+    let r = c.add_rows in
+    joined_up a.half a.v.now r.new.v c.requires r.ensures ∙ ap (λ (b : Bool). joined b a.half a.v.now) (sym c.if-up.true)
+
+pub returns-else-up : goal.returns-else-up
+returns-else-up c = let a = c.args in
+    let r = c.add_rows-else-up in
+    joined_down a.half a.v.now r.new.v c.requires r.ensures ∙ ap (λ (b : Bool). joined b a.half a.v.now) (sym c.if-up.false)
