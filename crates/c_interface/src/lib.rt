@@ -93,13 +93,7 @@ pub fn phg_compare(first: &[u8], second: &[u8], work: &mut [u16], answer: &mut [
     *answer = told::compared(verdict::compare(first, second, work));
 }
 
-pub fn phg_judge(
-    n: u8,
-    table: &[u8],
-    file: &[u8],
-    work: &mut [u16],
-    answer: &mut [u64; 6],
-)
+pub fn phg_judge(n: u8, table: &[u8], file: &[u8], work: &mut [u16], answer: &mut [u64; 6])
     ensures { Tells (Judges n table.now file.now work.old) compared_says answer.new work.new }
 {
     *answer = told::compared(verdict::judge(n, table, file, work));

@@ -1,0 +1,16 @@
+use Rattle.oracle_listing.specs.Oracle.{variables_of, table_of}
+use Rattle.oracle_listing.proofs.Printing.{text_printed, no_room, line_printed}
+use Rattle.oracle_listing.proofs.printout.Goals as goal
+
+pub returns-then-why-eq-ROOM : goal.returns-then-why-eq-ROOM
+returns-then-why-eq-ROOM c = let a = c.args in
+    no_room (variables_of a.input.now) (table_of a.input.now) a.out.now c.oracle_listing.result c.oracle_listing.new.out c.oracle_listing.ensures c.in-Refused.why c.in-Refused.is c.if-why-eq-ROOM.true
+
+pub returns-else-why-eq-ROOM : goal.returns-else-why-eq-ROOM
+returns-else-why-eq-ROOM c = let a = c.args in
+    line_printed (variables_of a.input.now) (table_of a.input.now) a.out.now c.oracle_listing.result c.oracle_listing.new.out c.oracle_listing.ensures c.in-Refused.why c.in-Refused.is c.if-why-eq-ROOM.false
+    c.refused_line.result c.refused_line.new.out c.refused_line.ensures
+
+pub returns-in-Length : goal.returns-in-Length
+returns-in-Length c = let a = c.args in
+    text_printed (variables_of a.input.now) (table_of a.input.now) a.out.now c.oracle_listing.result c.oracle_listing.new.out c.oracle_listing.ensures c.in-Length.length c.in-Length.is
