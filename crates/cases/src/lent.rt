@@ -1,6 +1,6 @@
 // Slices lent to an operation: what they hold before it, and their bytes after it.
 use crate::print;
-use libc::STDOUT_FILENO;
+use std::io;
 
 pub type Bytes = [u8; 65536];
 
@@ -19,30 +19,24 @@ pub(crate) fn bytes(room: usize) -> Bytes {
     if 65536 < room {
         return lent;
     }
-    let mut i: usize = 0;
-    while i < room {
+    for i in 0..room {
         lent[i] = start(i);
-        i += 1;
     }
     lent
 }
 
 pub(crate) fn work() -> Work {
     let mut lent = [0u16; 1100];
-    let mut i: usize = 0;
-    while i < 1100 {
+    for i in 0..1100 {
         lent[i] = start(i) as u16;
-        i += 1;
     }
     lent
 }
 
 pub(crate) fn sums() -> Sums {
     let mut lent = [0i32; 600];
-    let mut i: usize = 0;
-    while i < 600 {
+    for i in 0..600 {
         lent[i] = start(i) as i32;
-        i += 1;
     }
     lent
 }
@@ -56,24 +50,20 @@ fn put(bytes: &mut Bytes, i: usize, x: u16) {
 }
 
 // The first `end` bytes of the entries.
-pub(crate) fn print_work(lent: Work, end: usize) {
+pub(crate) fn print_work(rt: &impl Print, lent: Work, end: usize) -> io::Result<()> {
     let mut bytes = [0u8; 65536];
-    let mut i: usize = 0;
-    while i < 1100 {
+    for i in 0..1100 {
         put(&mut bytes, i, lent[i]);
-        i += 1;
     }
-    print_bytes(bytes, end);
+    print_bytes(rt, bytes, end)
 }
 
 // The sums in 16 bits each. One that needs more is shown as the nearest that fits, which no
 // spectrum has.
 pub(crate) fn in_16_bits(sums: Sums) -> Work {
     let mut shown = [0u16; 1100];
-    let mut i: usize = 0;
-    while i < 600 {
+    for i in 0..600 {
         shown[i] = pattern(sums[i]);
-        i += 1;
     }
     shown
 }
@@ -81,7 +71,7 @@ pub(crate) fn in_16_bits(sums: Sums) -> Work {
 fn pattern(x: i32) -> u16 {
     let size = numbers::magnitude(x);
     if x < 0 {
-        std::num::wrapping_sub_u16(0, at_most(size, 32768))
+        0u16.wrapping_sub(at_most(size, 32768))
     } else {
         at_most(size, 32767)
     }
@@ -92,9 +82,10 @@ fn at_most(x: u32, most: u16) -> u16 {
 }
 
 // The first `end` bytes.
-pub(crate) fn print_bytes(bytes: Bytes, end: usize) {
+pub(crate) fn print_bytes(rt: &impl Print, bytes: Bytes, end: usize) -> io::Result<()> {
     if end <= 65536 {
-        io::write_all(STDOUT_FILENO, b";");
-        print::bytes(&bytes[0..end]);
+        print!(rt; ";")?;
+        return print::bytes(rt, &bytes[0..end]);
     }
+    Ok(())
 }

@@ -8,39 +8,35 @@ mod operation;
 mod print;
 mod request;
 
-use libc::STDIN_FILENO;
 use request::Header;
+use std::io;
 
 // The most requests that are served, so that the loop has an end.
 const MOST: usize = 65536;
 
-fn main() {
+fn main(rt: HostRuntime) -> io::Result<()> {
     let mut tally = [0usize; 16];
-    let mut cases: usize = 0;
-    while cases < MOST {
+    for cases in 0..MOST {
         let mut header = [0u8; 10];
-        if io::read_full(STDIN_FILENO, &mut header) < 10 {
-            print::totals(&tally, cases);
-            return;
+        if input::fill(&mut rt.reader(), &mut header)? < 10 {
+            return print::totals(&rt, &tally, cases);
         }
         let op = (header[0] % 16) as usize;
-        tally[op] = std::num::wrapping_add_usize(tally[op], 1);
-        serve(header);
-        cases += 1;
+        tally[op] = tally[op].wrapping_add(1);
+        serve(&rt, header)?;
     }
+    Ok(())
 }
 
 // A request that is too long prints no line, which the comparison finds.
-fn serve(header: Header) {
+fn serve(rt: &(impl Input + Print), header: Header) -> io::Result<()> {
     let r = request::of(header);
     let m = r.first;
     let n = r.second;
-    let first = request::payload(m);
-    let second = request::payload(n);
-    if 8300 < m {
-        return;
+    let first = request::payload(rt, m)?;
+    let second = request::payload(rt, n)?;
+    if m <= 8300 && n <= 8300 {
+        return operation::line(rt, r, &first[0..m], &second[0..n]);
     }
-    if n <= 8300 {
-        operation::line(r, &first[0..m], &second[0..n]);
-    }
+    Ok(())
 }

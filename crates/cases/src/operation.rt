@@ -5,84 +5,84 @@ use crate::{lent, print, request};
 use build::Built;
 use circuit::{Decoded, Gate, Reading};
 use fold::Folded;
-use libc::STDOUT_FILENO;
 use listing::Listed;
 use running::{Counted, Ran};
 use spectrum::Transformed;
+use std::io;
 use table::Checked;
 use verdict::{Compared, Verdict};
 
-pub(crate) fn line(r: Request, first: &[u8], second: &[u8]) {
-    print::name(r.op);
-    number(r.a as usize);
-    number(r.b as usize);
-    number(r.room);
-    print::bytes(first);
-    print::bytes(second);
+pub(crate) fn line(rt: &impl Print, r: Request, first: &[u8], second: &[u8]) -> io::Result<()> {
+    print::name(rt, r.op)?;
+    number(rt, r.a as usize)?;
+    number(rt, r.b as usize)?;
+    number(rt, r.room)?;
+    print::bytes(rt, first)?;
+    print::bytes(rt, second)?;
     let op = r.op;
     match op {
-        request::SPECTRUM => spectrum(r.a, r.room, first),
+        request::SPECTRUM => spectrum(rt, r.a, r.room, first)?,
         request::BUILD..=request::ORACLE | request::PRINTOUT..=request::REFUSED => {
-            lend_bytes(op, r.a, r.room, first)
+            lend_bytes(rt, op, r.a, r.room, first)?
         }
-        request::COMPARE | request::JUDGE => lend_work(op, r.a, r.room, first, second),
-        _ => lend_nothing(op, r.a, r.b, first),
+        request::COMPARE | request::JUDGE => lend_work(rt, op, r.a, r.room, first, second)?,
+        _ => lend_nothing(rt, op, r.a, r.b, first)?,
     }
-    io::write_all(STDOUT_FILENO, b"\n");
+    print!(rt; "\n")
 }
 
 // A check answers no values.
-fn lend_nothing(op: u8, a: u8, b: u16, first: &[u8]) {
+fn lend_nothing(rt: &impl Print, op: u8, a: u8, b: u16, first: &[u8]) -> io::Result<()> {
     match op {
         request::CHECK => match table::check(a, first) {
-            Checked::Good => {
-                io::write_all(STDOUT_FILENO, b": answers");
-            }
-            Checked::Refused(refusal) => refused(refusal),
+            Checked::Good => print!(rt; ": answers"),
+            Checked::Refused(refusal) => refused(rt, refusal),
         },
-        request::VALUE => answers(table::value(first, b as usize) as usize),
-        request::DECODE => decode(a, b as usize, first),
-        request::GATE_AT => gate(circuit::gate_at(first, b as usize)),
-        _ => read(op, a, b, first),
+        request::VALUE => answers(rt, table::value(first, b as usize) as usize),
+        request::DECODE => decode(rt, a, b as usize, first),
+        request::GATE_AT => gate(rt, circuit::gate_at(first, b as usize)),
+        _ => read(rt, op, a, b, first),
     }
 }
 
 // The version in two bytes, then the gate's four.
-fn decode(w: u8, position: usize, first: &[u8]) {
+fn decode(rt: &impl Print, w: u8, position: usize, first: &[u8]) -> io::Result<()> {
     if first.len() == 6 {
         let version = request::number(first[0], first[1]);
-        gate(circuit::decode(version, w, position, first[2], first[3], first[4], first[5]));
+        let answer = circuit::decode(version, w, position, first[2], first[3], first[4], first[5]);
+        return gate(rt, answer);
     }
+    Ok(())
 }
 
 // 1, control, target and position of a CNOT; 2, wire, angle and position of a phase; 3, wire, 0 and position of an
 // inverter; 0 and the reason for bad.
-fn gate(answer: Decoded) {
+fn gate(rt: &impl Print, answer: Decoded) -> io::Result<()> {
     match answer {
         Decoded::Good(placed) => {
             let gate = placed.gate;
             match gate {
                 Gate::Cnot { control, target } => {
-                    answers(1);
-                    number(control as usize);
-                    number(target as usize)
+                    answers(rt, 1)?;
+                    number(rt, control as usize)?;
+                    number(rt, target as usize)?
                 }
                 Gate::Phase { wire, angle } => {
-                    answers(2);
-                    number(wire as usize);
-                    number(angle as usize)
+                    answers(rt, 2)?;
+                    number(rt, wire as usize)?;
+                    number(rt, angle as usize)?
                 }
                 Gate::Inverter { wire } => {
-                    answers(3);
-                    number(wire as usize);
-                    number(0)
+                    answers(rt, 3)?;
+                    number(rt, wire as usize)?;
+                    number(rt, 0)?
                 }
             }
-            number(placed.position)
+            number(rt, placed.position)
         }
         Decoded::Bad(reason) => {
-            answers(0);
-            number(circuit::reason_number(reason) as usize)
+            answers(rt, 0)?;
+            number(rt, circuit::reason_number(reason) as usize)
         }
     }
 }
@@ -96,21 +96,21 @@ fn reading(side: u8, file: &[u8]) -> Reading {
 }
 
 // Wires and gates; end state and phase; CNOTs, phase gates, score and inverters.
-fn read(op: u8, side: u8, start: u16, file: &[u8]) {
+fn read(rt: &impl Print, op: u8, side: u8, start: u16, file: &[u8]) -> io::Result<()> {
     match op {
         request::READ => match reading(side, file) {
             Reading::Circuit { wires, gates } => {
-                answers(wires as usize);
-                number(gates)
+                answers(rt, wires as usize)?;
+                number(rt, gates)
             }
-            Reading::Refused(refusal) => refused(refusal),
+            Reading::Refused(refusal) => refused(rt, refusal),
         },
         request::RUN => match running::run(file, start) {
             Ran::End { state, phase } => {
-                answers(state as usize);
-                number(phase as usize)
+                answers(rt, state as usize)?;
+                number(rt, phase as usize)
             }
-            Ran::Refused(refusal) => refused(refusal),
+            Ran::Refused(refusal) => refused(rt, refusal),
         },
         _ => match running::count(file) {
             Counted::Gates {
@@ -119,43 +119,44 @@ fn read(op: u8, side: u8, start: u16, file: &[u8]) {
                 score,
                 inverters,
             } => {
-                answers(cnots);
-                number(phases);
-                number(score);
-                number(inverters)
+                answers(rt, cnots)?;
+                number(rt, phases)?;
+                number(rt, score)?;
+                number(rt, inverters)
             }
-            Counted::Refused(refusal) => refused(refusal),
+            Counted::Refused(refusal) => refused(rt, refusal),
         },
     }
 }
 
 // The number of entries.
-fn spectrum(n: u8, room: usize, table: &[u8]) {
+fn spectrum(rt: &impl Print, n: u8, room: usize, table: &[u8]) -> io::Result<()> {
     let mut out = lent::sums();
     if 600 < room {
-        return;
+        return Ok(());
     }
     match spectrum::spectrum(n, table, &mut out[0..room]) {
-        Transformed::Entries(entries) => answers(entries),
-        Transformed::Refused(refusal) => refused(refusal),
+        Transformed::Entries(entries) => answers(rt, entries)?,
+        Transformed::Refused(refusal) => refused(rt, refusal)?,
     }
-    lent::print_work(lent::in_16_bits(out), room * 2);
+    lent::print_work(rt, lent::in_16_bits(out), room * 2)
 }
 
-fn lend_bytes(op: u8, a: u8, room: usize, first: &[u8]) {
+fn lend_bytes(rt: &impl Print, op: u8, a: u8, room: usize, first: &[u8]) -> io::Result<()> {
     let mut out = lent::bytes(room);
     if room <= 65536 {
-        write(op, a, first, &mut out[0..room]);
-        lent::print_bytes(out, room);
+        write(rt, op, a, first, &mut out[0..room])?;
+        return lent::print_bytes(rt, out, room);
     }
+    Ok(())
 }
 
 // The length of what is written; after it for a fold the scores before and after.
-fn write(op: u8, a: u8, first: &[u8], out: &mut [u8]) {
+fn write(rt: &impl Print, op: u8, a: u8, first: &[u8], out: &mut [u8]) -> io::Result<()> {
     match op {
         request::BUILD => match build::build(a, first, out) {
-            Built::Length(length) => answers(length),
-            Built::Refused(refusal) => refused(refusal),
+            Built::Length(length) => answers(rt, length),
+            Built::Refused(refusal) => refused(rt, refusal),
         },
         request::FOLD => match fold::fold(first, out) {
             Folded::File {
@@ -163,59 +164,74 @@ fn write(op: u8, a: u8, first: &[u8], out: &mut [u8]) {
                 before,
                 after,
             } => {
-                answers(length);
-                number(before);
-                number(after)
+                answers(rt, length)?;
+                number(rt, before)?;
+                number(rt, after)
             }
-            Folded::Refused(refusal) => refused(refusal),
+            Folded::Refused(refusal) => refused(rt, refusal),
         },
-        request::LIST => text(listing::list(first, a == 1, out)),
-        request::ORACLE => text(oracle_listing::oracle_listing(first, out)),
-        request::PRINTOUT => text(oracle_listing::printout(first, out)),
-        _ => text(listing::refused_line(a, out)),
+        request::LIST => text(rt, listing::list(first, a == 1, out)),
+        request::ORACLE => text(rt, oracle_listing::oracle_listing(first, out)),
+        request::PRINTOUT => text(rt, oracle_listing::printout(first, out)),
+        _ => text(rt, listing::refused_line(a, out)),
     }
 }
 
-fn text(answer: Listed) {
+fn text(rt: &impl Print, answer: Listed) -> io::Result<()> {
     match answer {
-        Listed::Length(length) => answers(length),
-        Listed::Refused(refusal) => refused(refusal),
+        Listed::Length(length) => answers(rt, length),
+        Listed::Refused(refusal) => refused(rt, refusal),
     }
 }
 
-fn lend_work(op: u8, a: u8, room: usize, first: &[u8], second: &[u8]) {
+fn lend_work(
+    rt: &impl Print,
+    op: u8,
+    a: u8,
+    room: usize,
+    first: &[u8],
+    second: &[u8],
+) -> io::Result<()> {
     let mut work = lent::work();
     if room <= 1100 {
-        settle(op, a, first, second, &mut work[0..room]);
-        lent::print_work(work, room * 2);
+        settle(rt, op, a, first, second, &mut work[0..room])?;
+        return lent::print_work(rt, work, room * 2);
     }
+    Ok(())
 }
 
-fn settle(op: u8, a: u8, first: &[u8], second: &[u8], work: &mut [u16]) {
+fn settle(
+    rt: &impl Print,
+    op: u8,
+    a: u8,
+    first: &[u8],
+    second: &[u8],
+    work: &mut [u16],
+) -> io::Result<()> {
     match op {
-        request::COMPARE => verdict(verdict::compare(first, second, work)),
-        _ => verdict(verdict::judge(a, first, second, work)),
+        request::COMPARE => verdict(rt, verdict::compare(first, second, work)),
+        _ => verdict(rt, verdict::judge(a, first, second, work)),
     }
 }
 
 // 0 for Same; 1, the state, both ends and the phase for Different.
-fn verdict(answer: Compared) {
+fn verdict(rt: &impl Print, answer: Compared) -> io::Result<()> {
     match answer {
         Compared::Found(verdict) => match verdict {
-            Verdict::Same => answers(0),
+            Verdict::Same => answers(rt, 0),
             Verdict::Different {
                 state,
                 first,
                 second,
                 phase,
             } => {
-                answers(1);
-                number(state as usize);
-                number(first as usize);
-                number(second as usize);
-                number(phase as usize)
+                answers(rt, 1)?;
+                number(rt, state as usize)?;
+                number(rt, first as usize)?;
+                number(rt, second as usize)?;
+                number(rt, phase as usize)
             }
         },
-        Compared::Refused(refusal) => refused(refusal),
+        Compared::Refused(refusal) => refused(rt, refusal),
     }
 }

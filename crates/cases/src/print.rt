@@ -1,49 +1,43 @@
 // The words of a line.
 use crate::request::Tally;
-use libc::STDOUT_FILENO;
 use refusal::Refusal;
+use std::io;
 
 // Eight letters for each operation, in the order of their numbers.
 const NAMES: [u8; 128] =
     *b"spectrumcheck   value   decode  gate_at read    run     count   build   fold    list    oracle  compare judge   printoutrefused ";
 
-pub(crate) fn name(op: u8) {
+pub(crate) fn name(rt: &impl Print, op: u8) -> io::Result<()> {
     let at = (op % 16) as usize * 8;
-    io::write_all(STDOUT_FILENO, &NAMES[at..at + 8]);
+    rt.write_all(&NAMES[at..at + 8])
 }
 
-pub(crate) fn number(n: usize) {
-    io::write_all(STDOUT_FILENO, b" ");
-    io::print_decimal(STDOUT_FILENO, n as u64);
+pub(crate) fn number(rt: &impl Print, n: usize) -> io::Result<()> {
+    print!(rt; " {n}")
 }
 
 // Few bytes in hexadecimal behind an x, many by their number and digest.
-pub(crate) fn bytes(data: &[u8]) {
+pub(crate) fn bytes(rt: &impl Print, data: &[u8]) -> io::Result<()> {
     if 16 < data.len() {
-        number(data.len());
-        io::write_all(STDOUT_FILENO, b" bytes ");
-        io::print_hex(STDOUT_FILENO, digest(data) as u64, 8);
-    } else {
-        io::write_all(STDOUT_FILENO, b" x");
-        each_hex(data);
+        number(rt, data.len())?;
+        return print!(rt; " bytes {:08x}", digest(data));
     }
+    print!(rt; " x")?;
+    each_hex(rt, data)
 }
 
-fn each_hex(data: &[u8]) {
-    let mut i: usize = 0;
-    while i < data.len() {
-        io::print_hex(STDOUT_FILENO, data[i] as u64, 2);
-        i += 1;
+fn each_hex(rt: &impl Print, data: &[u8]) -> io::Result<()> {
+    for b in data {
+        print!(rt; "{b:02x}")?;
     }
+    Ok(())
 }
 
 // FNV-1a, 32 bits.
 fn digest(data: &[u8]) -> u32 {
     let mut found: u32 = 2166136261;
-    let mut i: usize = 0;
-    while i < data.len() {
-        found = mixed(found, data[i]);
-        i += 1;
+    for b in data {
+        found = mixed(found, *b);
     }
     found
 }
@@ -54,31 +48,23 @@ fn mixed(found: u32, b: u8) -> u32 {
 }
 
 // An answer's first value.
-pub(crate) fn answers(value: usize) {
-    io::write_all(STDOUT_FILENO, b": answers");
-    number(value);
+pub(crate) fn answers(rt: &impl Print, value: usize) -> io::Result<()> {
+    print!(rt; ": answers {value}")
 }
 
-pub(crate) fn refused(r: Refusal) {
-    io::write_all(STDOUT_FILENO, b": refused");
-    number(r.number as usize);
-    io::write_all(STDOUT_FILENO, b" side");
-    number(r.side as usize);
-    io::write_all(STDOUT_FILENO, b" position");
-    number(r.position);
-    io::write_all(STDOUT_FILENO, b" reason");
-    number(r.reason as usize);
+pub(crate) fn refused(rt: &impl Print, r: Refusal) -> io::Result<()> {
+    print!(rt;
+        ": refused {} side {} position {} reason {}",
+        r.number, r.side, r.position, r.reason
+    )
 }
 
 // How many cases each operation had, and all together.
-pub(crate) fn totals(tally: &Tally, cases: usize) {
-    let mut op: u8 = 0;
-    while op < 16 {
-        name(op);
-        number(tally[op as usize]);
-        io::write_all(STDOUT_FILENO, b"\n");
-        op += 1;
+pub(crate) fn totals(rt: &impl Print, tally: &Tally, cases: usize) -> io::Result<()> {
+    for op in 0..16u8 {
+        name(rt, op)?;
+        number(rt, tally[op as usize])?;
+        print!(rt; "\n")?;
     }
-    io::print_decimal(STDOUT_FILENO, cases as u64);
-    io::write_all(STDOUT_FILENO, b" cases compared\n");
+    println!(rt; "{cases} cases compared")
 }

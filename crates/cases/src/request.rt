@@ -1,5 +1,5 @@
 // Requests: a header of ten bytes, then two payloads.
-use libc::STDIN_FILENO;
+use std::io;
 
 pub(crate) const SPECTRUM: u8 = 0;
 
@@ -67,10 +67,10 @@ pub(crate) fn number(high: u8, low: u8) -> u16 {
     (high as u16) * 256 + (low as u16)
 }
 
-pub(crate) fn payload(length: usize) -> Payload {
+pub(crate) fn payload(rt: &impl Input, length: usize) -> io::Result<Payload> {
     let mut bytes = [0u8; 8300];
     if length <= 8300 {
-        io::read_full(STDIN_FILENO, &mut bytes[0..length]);
+        input::fill(&mut rt.reader(), &mut bytes[0..length])?;
     }
-    bytes
+    Ok(bytes)
 }

@@ -1,49 +1,47 @@
 // The lines of an answer, on standard output.
 use crate::words;
-use libc::STDOUT_FILENO;
 use refusal::Refusal;
+use std::io;
 use verdict::Verdict;
 
-pub(crate) fn say(text: &[u8]) {
-    io::write_all(STDOUT_FILENO, text);
+pub(crate) fn say(rt: &impl Print, text: &[u8]) -> io::Result<()> {
+    rt.write_all(text)
 }
 
 // A name, then a number.
-pub(crate) fn number(name: &[u8], x: usize) {
-    say(name);
-    io::print_decimal(STDOUT_FILENO, x as u64);
+pub(crate) fn number(rt: &impl Print, name: &[u8], x: usize) -> io::Result<()> {
+    say(rt, name)?;
+    rt.print(x)
 }
 
 // A line of numbers, each behind its name.
-pub(crate) fn numbers(names: &[u8], row: &[usize]) {
-    let mut i: usize = 0;
-    while i < row.len() {
-        number(words::word(names, i), row[i]);
-        i += 1;
+pub(crate) fn numbers(rt: &impl Print, names: &[u8], row: &[usize]) -> io::Result<()> {
+    for (i, x) in row.iter().enumerate() {
+        number(rt, words::word(names, i), *x)?;
     }
-    say(b"\n");
+    say(rt, b"\n")
 }
 
-pub(crate) fn refused(r: Refusal) {
+pub(crate) fn refused(rt: &impl Print, r: Refusal) -> io::Result<()> {
     let names =
         b"\0 VARS\0 TABLE\0 PAD\0 SHORT\0 MARK\0 VERSION\0 WIRES\0 COUNT\0 LENGTH\0 GATE\0 STATE\0 UNLIKE\0 ROOM\0\0\0\0 LOOSE";
     let row = r.number as usize;
-    number(b"refused ", row);
-    say(words::word(names, row));
-    number(b" side ", r.side as usize);
-    number(b" position ", r.position);
-    reason(r.reason);
-    row_words(row);
+    number(rt, b"refused ", row)?;
+    say(rt, words::word(names, row))?;
+    number(rt, b" side ", r.side as usize)?;
+    number(rt, b" position ", r.position)?;
+    reason(rt, r.reason)?;
+    row_words(rt, row)
 }
 
 // What is wrong with a bad gate; nothing for the other refusals.
-fn reason(reason: u8) {
+fn reason(rt: &impl Print, reason: u8) -> io::Result<()> {
     let reasons = b"\0 reason kind\0 reason wire\0 reason equal\0 reason spare";
-    say(words::word(reasons, reason as usize));
+    say(rt, words::word(reasons, reason as usize))
 }
 
 // The words of a row of document 01's table, or of a refusal of 02. No operation gives 14 to 16.
-fn row_words(row: usize) {
+fn row_words(rt: &impl Print, row: usize) -> io::Result<()> {
     let rows = b"\0\
         : n is 0 or above 8\n\0\
         : the table's length is wrong\n\0\
@@ -59,34 +57,33 @@ fn row_words(row: usize) {
         : the wire counts differ\n\0\
         : the room is too small\n\0\0\0\0\
         : a wire does not end as it starts\n";
-    say(words::word(rows, row));
+    say(rt, words::word(rows, row))
 }
 
-pub(crate) fn wrote(length: usize) {
-    number(b"wrote ", length);
-    say(b" bytes\n");
+pub(crate) fn wrote(rt: &impl Print, length: usize) -> io::Result<()> {
+    number(rt, b"wrote ", length)?;
+    say(rt, b" bytes\n")
 }
 
 // The first numbers of a row, one a line.
-pub(crate) fn signed(row: &[i32], entries: usize) {
-    let mut i: usize = 0;
-    while i < entries && i < row.len() {
-        line(row[i]);
-        i += 1;
+pub(crate) fn signed(rt: &impl Print, row: &[i32], entries: usize) -> io::Result<()> {
+    for x in row.iter().take(entries) {
+        line(rt, *x)?;
     }
+    Ok(())
 }
 
-fn line(x: i32) {
+fn line(rt: &impl Print, x: i32) -> io::Result<()> {
     if x < 0 {
-        say(b"-");
+        say(rt, b"-")?;
     }
-    number(b"", numbers::magnitude(x) as usize);
-    say(b"\n");
+    number(rt, b"", numbers::magnitude(x) as usize)?;
+    say(rt, b"\n")
 }
 
-pub(crate) fn verdict(found: Verdict) {
+pub(crate) fn verdict(rt: &impl Print, found: Verdict) -> io::Result<()> {
     match found {
-        Verdict::Same => say(b"same\n"),
+        Verdict::Same => say(rt, b"same\n"),
         Verdict::Different {
             state,
             first,
@@ -99,29 +96,30 @@ pub(crate) fn verdict(found: Verdict) {
                 second as usize,
                 phase as usize,
             ];
-            numbers(b"different at \0 ends \0 \0 phase ", &row);
+            numbers(rt, b"different at \0 ends \0 \0 phase ", &row)
         }
     }
 }
 
 // A line for each entry that is not 0.
-pub(crate) fn differences(work: &[u16]) {
-    let mut state: usize = 0;
-    while state < work.len() {
-        difference(state, work[state]);
-        state += 1;
+pub(crate) fn differences(rt: &impl Print, work: &[u16]) -> io::Result<()> {
+    for (state, d) in work.iter().enumerate() {
+        difference(rt, state, *d)?;
     }
+    Ok(())
 }
 
-fn difference(state: usize, d: u16) {
+fn difference(rt: &impl Print, state: usize, d: u16) -> io::Result<()> {
     if d != 0 {
         let row = [state, d as usize];
-        numbers(b"\0 ", &row);
+        return numbers(rt, b"\0 ", &row);
     }
+    Ok(())
 }
 
-pub(crate) fn usage() {
+pub(crate) fn usage(rt: &impl Print) -> io::Result<()> {
     say(
+        rt,
         b"phg spectrum N TABLE                    the spectrum, one number a line
 phg build N TABLE OUT                   writes the circuit of the table's oracle
 phg read FILE                           wires and gates
@@ -134,5 +132,5 @@ phg list [--wrapped] FILE [OUT]         the circuit as OpenQASM 2.0
 N and START are decimal. TABLE is hexadecimal digits, two a byte, as 08, or @ and a
 file's name. The name - is standard input.
 ",
-    );
+    )
 }

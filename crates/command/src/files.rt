@@ -3,6 +3,9 @@ ghost use Rattle.std.specs.Prelude.{◌≡◌, length, take};
 
 use crate::digits::Number;
 use crate::{complaints, digits};
+use std::io::ErrorKind;
+use std::rt::Files;
+use std::{fs, io};
 
 #[derive(Drop)]
 pub enum Loaded {
@@ -41,104 +44,112 @@ pub(crate) fn front(bytes: &[u8], n: usize) -> &[u8]
     bytes
 }
 
-// Reads until the room is full, the input ends or a read fails.
-fn fill(input: i32, room: &mut [u8]) -> Loaded {
-    let mut at: usize = 0;
-    while at < room.len() {
-        let got = libc::read(input, &mut room[at..]);
-        if got < 0 {
-            return Loaded::Failed;
-        }
-        let more = io::count(got, &room[at..]);
-        if more == 0 {
-            return Loaded::Bytes(at);
-        }
-        at += more;
+// The text of a name: std opens no file whose name is not UTF-8.
+fn text(name: &[u8]) -> io::Result<&str> {
+    match str::from_utf8(name) {
+        Ok(text) => Ok(text),
+        Err(_) => Err(io::Error::from(ErrorKind::InvalidInput)),
     }
-    Loaded::Bytes(at)
 }
 
-fn read(name: &[u8], room: &mut [u8]) -> Loaded {
+fn read(rt: &(impl Files + Input), name: &[u8], room: &mut [u8]) -> io::Result<usize> {
     if check::same(name, b"-") {
-        return fill(0, room);
+        return input::fill(&mut rt.reader(), room);
     }
-    let input = os::open_read(name);
-    if input < 0 {
-        return Loaded::Failed;
-    }
-    let loaded = fill(input, room);
-    libc::close(input);
-    loaded
+    let mut file = fs::open(rt, text(name)?)?;
+    input::fill(&mut file, room)
 }
 
-pub(crate) fn load(name: &[u8], room: &mut [u8], errors: i32) -> Loaded {
-    let loaded = read(name, room);
-    if let Loaded::Failed = loaded {
-        complaints::write(
-            errors,
-            name,
-            b" can't be read: name a file that can, or - for standard input",
-        );
+// A file that can't be read is a complaint.
+pub(crate) fn load(
+    rt: &(impl Files + Input),
+    name: &[u8],
+    room: &mut [u8],
+    errors: &impl Print,
+) -> io::Result<Loaded> {
+    match read(rt, name, room) {
+        Ok(size) => Ok(Loaded::Bytes(size)),
+        Err(_) => {
+            complaints::write(
+                errors,
+                name,
+                b" can't be read: name a file that can, or - for standard input",
+            )?;
+            Ok(Loaded::Failed)
+        }
     }
-    loaded
 }
 
 // The table of a word: hexadecimal digits, two a byte, or @ and a file's name.
-fn load_table(word: &[u8], room: &mut [u8], errors: i32) -> Loaded {
+fn load_table(
+    rt: &(impl Files + Input),
+    word: &[u8],
+    room: &mut [u8],
+    errors: &impl Print,
+) -> io::Result<Loaded> {
     if 0 < word.len() && word[0] == b'@' {
-        return load(&word[1..], room, errors);
+        return load(rt, &word[1..], room, errors);
     }
     if digits::are_bytes(word) {
-        return Loaded::Bytes(digits::put_bytes(word, room));
+        return Ok(Loaded::Bytes(digits::put_bytes(word, room)));
     }
     complaints::write(
         errors,
         word,
         b" is no table: write hexadecimal digits, two a byte, or @FILE",
-    );
-    Loaded::Failed
+    )?;
+    Ok(Loaded::Failed)
 }
 
-pub(crate) fn number(word: &[u8], errors: i32) -> Number {
+// A word that is no number is a complaint.
+pub(crate) fn number(word: &[u8], errors: &impl Print) -> io::Result<Number> {
     let number = digits::decimal(word);
     if let Number::Bad = number {
-        complaints::write(errors, word, b" is no number: write decimal digits");
+        complaints::write(errors, word, b" is no number: write decimal digits")?;
     }
-    number
+    Ok(number)
 }
 
 // The words N and TABLE.
-pub(crate) fn table(count: &[u8], digits: &[u8], room: &mut [u8], errors: i32) -> Tabled {
-    let Number::Is(n) = number(count, errors) else {
-        return Tabled::Failed;
+pub(crate) fn table(
+    rt: &(impl Files + Input),
+    count: &[u8],
+    digits: &[u8],
+    room: &mut [u8],
+    errors: &impl Print,
+) -> io::Result<Tabled> {
+    let Number::Is(n) = number(count, errors)? else {
+        return Ok(Tabled::Failed);
     };
-    let Loaded::Bytes(length) = load_table(digits, room, errors) else {
-        return Tabled::Failed;
+    let Loaded::Bytes(length) = load_table(rt, digits, room, errors)? else {
+        return Ok(Tabled::Failed);
     };
-    Tabled::Table {
+    Ok(Tabled::Table {
         n: digits::narrow(n),
         length,
-    }
+    })
 }
 
-fn written(name: &[u8], bytes: &[u8]) -> bool {
+// The name of standard input is no file's.
+fn write(rt: &impl Files, name: &[u8], bytes: &[u8]) -> io::Result<()> {
     if check::same(name, b"-") {
-        return false;
+        return Err(io::Error::from(ErrorKind::InvalidInput));
     }
-    let output = os::open_overwrite(name);
-    if output < 0 {
-        return false;
-    }
-    let all = io::write_all(output, bytes);
-    libc::close(output);
-    all
+    fs::write(rt, text(name)?, bytes)
 }
 
-// Whether the file was written.
-pub(crate) fn store(name: &[u8], bytes: &[u8], errors: i32) -> bool {
-    let done = written(name, bytes);
-    if !done {
-        complaints::write(errors, name, b" can't be written: name a file that can");
+// Whether the file was written; a file that can't be is a complaint.
+pub(crate) fn store(
+    rt: &impl Files,
+    name: &[u8],
+    bytes: &[u8],
+    errors: &impl Print,
+) -> io::Result<bool> {
+    match write(rt, name, bytes) {
+        Ok(()) => Ok(true),
+        Err(_) => {
+            complaints::write(errors, name, b" can't be written: name a file that can")?;
+            Ok(false)
+        }
     }
-    done
 }

@@ -1,6 +1,9 @@
-// What a command line does. Its words are separated by a byte 0. Answers go to standard output,
-// and what is wrong with the call itself to the descriptor `errors`.
+// What a command line does. Its words are separated by a byte 0. Answers go to the standard output,
+// and what is wrong with the call itself to `errors`.
 #![tactic(auto)]
+
+use std::io;
+use std::rt::Files;
 
 mod answers;
 mod circuits;
@@ -11,25 +14,24 @@ mod files;
 mod tables;
 mod words;
 
-pub fn call(line: &[u8], errors: i32) {
+// An `Err` is a write to the standard output or to `errors` that failed: what was printed before it
+// stands, and nothing follows.
+pub fn call(rt: &(impl Files + Input + Print), line: &[u8], errors: &impl Print) -> io::Result<()> {
     let name = words::word(line, 0);
     let command = commands::numbered(name);
     if command == commands::HELP {
-        answers::usage();
-        return;
+        return answers::usage(rt);
     }
     if commands::HELP < command {
-        complaints::unknown(errors, name);
-        return;
+        return complaints::unknown(errors, name);
     }
     let first = commands::first(command, words::word(line, 1));
     if !commands::takes(command, first, words::others(line)) {
-        complaints::form(errors, command);
-        return;
+        return complaints::form(errors, command);
     }
     if command <= commands::JUDGE {
-        tables::call(command, line, first, errors);
+        tables::call(rt, command, line, first, errors)
     } else {
-        circuits::call(command, line, first, errors);
+        circuits::call(rt, command, line, first, errors)
     }
 }

@@ -4,8 +4,8 @@
 
 ghost use Rattle.std.specs.Prelude.{◌≡◌, length};
 
-use libc::{STDIN_FILENO, STDOUT_FILENO};
 use listing::Listed;
+use std::io;
 
 // The largest table has 32 bytes, so that 34 bytes decide.
 fn input_room() -> [u8; 34]
@@ -15,19 +15,20 @@ fn input_room() -> [u8; 34]
 }
 
 // 65,536 bytes hold every printout, so that it is never refused.
-fn main() {
-    let mut input = input_room();
-    let n = io::read_full(STDIN_FILENO, &mut input);
-    let mut text = io::large_buffer();
-    match oracle_listing::printout(&input[..n], &mut text) {
-        Listed::Refused(_) => {}
-        Listed::Length(length) => print(&text, length),
+fn main(rt: HostRuntime) -> io::Result<()> {
+    let mut room = input_room();
+    let n = input::fill(&mut rt.reader(), &mut room)?;
+    let mut text = [0u8; 65536];
+    match oracle_listing::printout(&room[..n], &mut text) {
+        Listed::Refused(_) => Ok(()),
+        Listed::Length(length) => print(&rt, &text, length),
     }
 }
 
 // The first bytes of a text.
-fn print(text: &[u8], length: usize) {
+fn print(rt: &impl Print, text: &[u8], length: usize) -> io::Result<()> {
     if length <= text.len() {
-        io::write_all(STDOUT_FILENO, &text[..length]);
+        return rt.write_all(&text[..length]);
     }
+    Ok(())
 }

@@ -1,49 +1,44 @@
 // The command that the arguments are.
 #![tactic(auto)]
 
+use std::env::FillError;
+use std::io;
+use std::rt::{Env, Files};
 
-fn main() {
-    let mut line = io::large_buffer();
-    let end = join(&mut line);
-    call(&line, end);
+fn main(rt: HostRuntime) -> io::Result<()> {
+    let mut line = [0u8; 65536];
+    let end = join(&rt, &mut line);
+    call(&rt, &line, end, &rt.stderr())
 }
 
 // Puts the arguments into a line of zeros, each with a byte 0 behind it, and answers where they
 // end: at the line's end where they do not fit.
-fn join(line: &mut [u8]) -> usize {
-    let count = os::arg_count();
+fn join(rt: &impl Env, line: &mut [u8]) -> usize {
     let mut end: usize = 0;
     let mut i: usize = 1;
-    while i < count {
-        end = put(line, end, i);
+    while end < line.len() {
+        match rt.arg(i, &mut line[end..]) {
+            Ok(n) => end += n + 1,
+            Err(FillError::NotPresent) => return end,
+            Err(FillError::TooLong) => return line.len(),
+        }
         i += 1;
     }
-    end
+    line.len()
 }
 
-// Puts argument i at a place, and answers the place behind its byte 0.
-fn put(line: &mut [u8], at: usize, i: usize) -> usize {
-    let room = line.len();
-    if room <= at {
-        return room;
-    }
-    let n = os::arg(i, &mut line[at..]);
-    if os::errno() != 0 {
-        return room;
-    }
-    if n < room - at { at + n + 1 } else { room }
-}
-
-fn call(line: &[u8], end: usize) {
+fn call(
+    rt: &(impl Files + Input + Print),
+    line: &[u8],
+    end: usize,
+    errors: &impl Print,
+) -> io::Result<()> {
     if end == 0 {
-        command::call(b"", libc::STDERR_FILENO);
-    } else if end < line.len() {
-        let last = end - 1;
-        command::call(&line[..last], libc::STDERR_FILENO);
-    } else {
-        io::write_all(
-            libc::STDERR_FILENO,
-            b"phg: these words are too long: write a table as @FILE\n",
-        );
+        return command::call(rt, b"", errors);
     }
+    if end < line.len() {
+        let last = end - 1;
+        return command::call(rt, &line[..last], errors);
+    }
+    errors.write_all(b"phg: these words are too long: write a table as @FILE\n")
 }

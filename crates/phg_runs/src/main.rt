@@ -1,26 +1,25 @@
 // Runs each command of the file `commands`, one a line, its words separated by one blank.
 #![tactic(auto)]
 
-ghost use Rattle.std.specs.Prelude.{◌≤◌, ◌<◌, length};
-ghost use Rattle.io.specs.Counts.{IsPrefixLen};
+ghost use Rattle.std.specs.Prelude.{◌≡◌, ◌≤◌, ◌<◌, length, take};
 
-use libc::STDOUT_FILENO;
+use std::rt::Files;
+use std::{fs, io};
 
-fn main() {
-    let mut text = io::buffer();
-    let input = os::open_read(b"commands");
-    let n = io::read_full(input, &mut text);
-    libc::close(input);
-    run_all(&text[..n]);
+fn main(rt: HostRuntime) -> io::Result<()> {
+    let mut text = [0u8; 4096];
+    let n = input::fill(&mut fs::open(&rt, "commands")?, &mut text)?;
+    run_all(&rt, &text[..n])
 }
 
-fn run_all(text: &[u8]) {
+fn run_all(rt: &(impl Files + Input + Print), text: &[u8]) -> io::Result<()> {
     let mut at: usize = 0;
     while at < text.len() {
         let next = line_end(text, at);
-        run(&text[at..next]);
+        run(rt, &text[at..next])?;
         at = next;
     }
+    Ok(())
 }
 
 // The place behind the line that starts at `at`.
@@ -39,17 +38,18 @@ fn line_end(text: &[u8], at: usize) -> usize
 }
 
 // Prints a line and runs it.
-fn run(text: &[u8]) {
-    io::write_all(STDOUT_FILENO, b"$ ");
-    io::write_all(STDOUT_FILENO, text);
-    let mut line = io::buffer();
+fn run(rt: &(impl Files + Input + Print), text: &[u8]) -> io::Result<()> {
+    rt.write_all(b"$ ")?;
+    rt.write_all(text)?;
+    let mut line = [0u8; 4096];
     let n = separate(text, &mut line);
-    command::call(&line[..n], STDOUT_FILENO);
+    command::call(rt, &line[..n], rt)
 }
 
 // Copies a line without its end, a byte 0 for each blank, and answers its length.
 fn separate(text: &[u8], line: &mut [u8]) -> usize
-    ensures { IsPrefixLen result line.new }
+    ensures within { result ≤ length line.new }
+    ensures front { result ≡ length (take result line.new) }
 {
     let mut i: usize = 0;
     while i < text.len() && i < line.len() {
