@@ -1,20 +1,20 @@
 # Sourced by examples/run and bench/run, with $root set: C compiled and linked against the archive by the kit's own
-# clang and ld.lld for x86-64, and run by the kit's loader (on another processor by its emulator).
-self=$(command -v rt) || { echo "rt is not on the path" >&2; exit 2; }
-while [ -L "$self" ]; do
-    link=$(readlink "$self")
-    case $link in /*) self=$link ;; *) self=$(dirname "$self")/$link ;; esac
-done
-home=${RATTLE_HOME:-$(cd "$(dirname "$self")/.." && pwd -P)}
-tools=$home/on/$(uname -m)/toolchain
-[ -x "$tools/bin/clang" ] || { echo "no toolchain for this machine at $home" >&2; exit 2; }
+# clang and ld.lld for x86-64, and run by the kit's loader (on another processor by its emulator, where the kit has one).
+command -v rt >/dev/null || { echo "rt is not on the path" >&2; exit 2; }
+guide=$(rt doc) || exit 2
+tools=${guide%/*}/toolchain
+[ -x "$tools/bin/clang" ] || { echo "no toolchain at $tools" >&2; exit 2; }
 emulator=$tools/bin/qemu-x86_64
 [ -x "$emulator" ] || emulator=''
 archive=$root/target/staticlib/libc_interface.a
 made=$root/target/c
 
-# The archive, where it is missing.
-need_archive() { [ -f "$archive" ] || (cd "$root" && rt staticlib c_interface) >&2; }
+# The archive, where it is missing: what rt makes of c_interface_c, under the name that callers in C link.
+need_archive() {
+    [ -f "$archive" ] && return
+    (cd "$root/crates/c_interface_c" && rt lib) >&2 || return
+    mkdir -p "$(dirname "$archive")" && cp "$root/crates/c_interface_c/out/libc_interface_c.a" "$archive"
+}
 
 # NAME FILE.c..: compiles and links target/c/NAME.
 build_c() {

@@ -1,7 +1,7 @@
 /* phg.h: the operations of documents 01 and 02 for callers in C and C++.
  *
- * Link target/staticlib/libc_interface.a, which `rt staticlib c_interface` writes. It is for x86-64 Linux, and of the C
- * library it needs memset alone.
+ * Link target/staticlib/libc_interface.a, which examples/run and bench/run put there: what `rt lib` writes in
+ * crates/c_interface_c. It is for x86-64 Linux, and of the C library it needs memset alone.
  *
  * Rules that a caller keeps. Under them each function is total: it answers on every input.
  *   - A slice is a pointer and a length in entries. The pointer is valid for that many entries, and aligned for them.
