@@ -1,8 +1,8 @@
 -- 02 §12: what a flipped mask adds; a run from its coefficients, the constant among them, and from the ends of start 0 and of each wire's own.
 use Prim.Native.Nat.{ℕ, suc, ◌+◌, ◌-◌, ◌*◌, ◌%◌, ◌^◌, ◌<◌}
-use native.Mathlib.Nat.{add-zero, mul_comm, one-mul}
+use native.Mathlib.Nat.{add-zero, one-mul}
 use native.Mathlib.Omega.{arith}
-use mathlib.Core.Path.{◌≡◌, sym, ap, ap₂, ◌∙◌}
+use mathlib.Core.Path.{◌≡◌, ap, ◌∙◌}
 use mathlib.Core.List.{List, [], ◌∷◌}
 use lib.Bits.{bit_xor}
 use lib.Count.{ones}

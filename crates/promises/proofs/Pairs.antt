@@ -22,7 +22,7 @@ use Rattle.verdict.specs.declared.Compared.TheVariants.{Found}
 use Rattle.verdict.specs.Judging.{Compares}
 use Rattle.cancel.specs.declared.Cancelled.{Cancelled}
 use Rattle.cancel.specs.declared.Cancelled.TheVariants.{File}
-use Rattle.cancel.specs.Cancel.{cancelled, steps, cancelled_file, most_allowed, allow_check, cancel_checks, cancelled_says, Cancels}
+use Rattle.cancel.specs.Cancel.{steps, cancelled_file, most_allowed, allow_check, cancel_checks, cancelled_says, Cancels}
 use Rattle.cancel.specs.Sentences.{Pair}
 use Rattle.cancel.proofs.Sentences.{cancelling_only}
 use Rattle.cancel.proofs.Files.{same_version, same_wires, cancelled_passes, cancelled_bytes, count_falls, file_cancels, file_others, file_end, file_phase, all_gone}

@@ -29,7 +29,6 @@ use Rattle.coefficients.specs.Coefficients.{sign, coefficient}
 use Rattle.verdict.specs.declared.Verdict.TheVariants.{Different}
 use Rattle.verdict.specs.declared.Compared.{Compared}
 use Rattle.verdict.specs.declared.Compared.TheVariants.{Found}
-use Rattle.verdict.specs.Verdicts.{circuit, Agree}
 use Rattle.verdict.specs.Judging.{Compares}
 use Rattle.promises.specs.MasksAlone.{total_of_mask, earlier_of_mask, becomes_by_mask, folded_by_mask_from, folded_by_mask, coefficient_by_mask}
 use Rattle.promises.proofs.Verdicts.{compare_named}

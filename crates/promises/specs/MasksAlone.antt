@@ -5,7 +5,7 @@ use Rattle.numbers.specs.Bits.{equal, subset}
 use Rattle.circuit.specs.declared.Gate.{Gate}
 use Rattle.circuit.specs.declared.Gate.TheVariants.{Cnot, Phase, Inverter}
 use Rattle.circuit.specs.File.{version_of, wires_of, gates_of, file_of}
-use Rattle.running.specs.Masks.{Held, own_held, sum_met}
+use Rattle.running.specs.Masks.{own_held, sum_met}
 use Rattle.running.specs.Groups.{held_before}
 use Rattle.fold.specs.Fold.{kept, first_only}
 

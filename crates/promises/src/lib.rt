@@ -1,3 +1,2 @@
 // The promises of the tender, as theorems over every crate below: proofs/.
 #![tactic(auto)]
-
