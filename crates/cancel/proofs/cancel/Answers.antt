@@ -1,12 +1,16 @@
-use native.Mathlib.Omega.{arith}
+use Rattle.std.proofs.Common.{arith}
 use Rattle.circuit.proofs.Callers.{read_answers, read_refuses}
 use Rattle.cancel.proofs.Answers.{file_fails, allow_fails}
 use Rattle.cancel.proofs.cancel.Goals as goal
 
 pub returns-then-most-gt-MOST_ALLOWED : goal.returns-then-most-gt-MOST_ALLOWED
-returns-then-most-gt-MOST_ALLOWED c = let a = c.args in
-    allow_fails a.file.now a.most a.out.now (read_answers 0 c.args.file.now c.read.result c.read.ensures c.in-Circuit.wires c.in-Circuit.gates c.in-Circuit.is).passes (omega arith) c.by.result c.by.ensures
+returns-then-most-gt-MOST_ALLOWED c =
+    let f = c.args.file.now in
+    let v = c.in-Circuit in
+    allow_fails f c.args.most c.args.out.now (read_answers 0 f c.read.result c.read.ensures v.wires v.gates v.is).passes (omega arith) c.by.result c.by.ensures
 
 pub returns-in-Refused : goal.returns-in-Refused
-returns-in-Refused c = let a = c.args in
-    file_fails a.file.now a.most a.out.now c.in-Refused.refusal (read_refuses 0 a.file.now c.read.result c.read.ensures c.in-Refused.refusal c.in-Refused.is)
+returns-in-Refused c =
+    let f = c.args.file.now in
+    let r = c.in-Refused in
+    file_fails f c.args.most c.args.out.now r.refusal (read_refuses 0 f c.read.result c.read.ensures r.refusal r.is)

@@ -1,4 +1,4 @@
-use Prim.Native.Nat.{◌-◌, ◌≤◌}
+use Rattle.std.proofs.Common.{◌-◌, ◌≤◌}
 use Rattle.cancel.proofs.Writing.{ToWrite}
 use Rattle.cancel.proofs.writer.write_gates.Given as goal
 
