@@ -6,7 +6,8 @@ pub returns-then-why-eq-ROOM : goal.returns-then-why-eq-ROOM
 returns-then-why-eq-ROOM c =
     let a = c.args in
     let o = c.oracle_listing in
-    no_room (variables_of a.input.now) (table_of a.input.now) a.out.now o.result o.new.out o.ensures c.in-Refused.why c.in-Refused.is c.if-why-eq-ROOM.true
+    let full : c.in-Refused.why.number ≡ 13 = omega arith in
+    no_room (variables_of a.input.now) (table_of a.input.now) a.out.now o.result o.new.out o.ensures c.in-Refused.why c.in-Refused.is full
 
 pub returns-else-why-eq-ROOM : goal.returns-else-why-eq-ROOM
 returns-else-why-eq-ROOM c =

@@ -15,7 +15,7 @@ has-unused b k h e =
     omega arith
 
 pub returns-then-n-eq0 : goal.returns-then-n-eq0
-returns-then-n-eq0 c = refused_by _ _ c.by.ensures (inl (c.if-n-eq0.true, refl))
+returns-then-n-eq0 c = let zero : c.args.n ≡ 0 = omega arith in refused_by _ _ c.by.ensures (inl (zero, refl))
 
 pub returns-then-n-gt8 : goal.returns-then-n-gt8
 returns-then-n-gt8 c = refused_by _ _ c.by-then-n-gt8.ensures (inr (omega arith, inl (omega arith, refl)))
