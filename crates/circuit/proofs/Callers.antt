@@ -8,9 +8,9 @@ use lib.Pow.{pow_mono}
 use Rattle.refusal.specs.declared.Refusal.{Refusal}
 use Rattle.refusal.specs.Checks.{passed, refused, outcome}
 use Rattle.refusal.proofs.Passed.{passed_fail, fail_passed}
-use Rattle.refusal.proofs.Contracts.{Distinct, same_refusal, answers_values, answers_refusal}
-use Rattle.circuit.specs.declared.Reading.{Reading}
-use Rattle.circuit.specs.declared.Reading.TheVariants.{Circuit, Refused}
+use Rattle.refusal.proofs.Contracts.{Distinct, answers_distinct, answers_values, answers_refusal}
+use Rattle.circuit.specs.declared.Header.{Header}
+use Rattle.std.specs.Prelude.{Result, Ok, Err}
 use Rattle.circuit.specs.File.{mark_of, version_of, wires_of, count_of, bad_of, file_checks, reading_says, ReadsSide}
 
 -- a file that passes every check
@@ -60,18 +60,18 @@ pub record Answered (s : ℕ) (f : List ℕ) (w g : ℕ) : Type 0 where
   pub wires : w ≡ wires_of f
   pub count : g ≡ count_of f
 
-module _ (s : ℕ) (f : List ℕ) (r : Reading) (says : ReadsSide s f r) where
-  pub read_answers : (w g : ℕ) → r ≡ Circuit w g → Answered s f w g
-  read_answers w g e =
-      let v = answers_values reading_says (outcome (file_checks s f)) (wires_of f ∷ count_of f ∷ []) r says (w ∷ g ∷ []) (ap reading_says e) in
+module _ (s : ℕ) (f : List ℕ) (r : Result Header Refusal) (says : ReadsSide s f r) where
+  pub read_answers : (h : Header) → r ≡ Ok h → Answered s f h.wires h.gates
+  read_answers h e =
+      let v = answers_values reading_says (outcome (file_checks s f)) (wires_of f ∷ count_of f ∷ []) r says (h.wires ∷ h.gates ∷ []) (ap reading_says e) in
       record { passes = v.0; file = good_file s f v.0; wires = cc v.1; count = cc v.1 }
 
   -- and when it refuses
-  pub read_refuses : (x : Refusal) → r ≡ Refused x → outcome (file_checks s f) ≡ refused x
+  pub read_refuses : (x : Refusal) → r ≡ Err x → outcome (file_checks s f) ≡ refused x
   read_refuses x e = answers_refusal reading_says (outcome (file_checks s f)) (wires_of f ∷ count_of f ∷ []) r says x (ap reading_says e)
 
 pub reading_distinct : Distinct reading_says
-reading_distinct (Circuit v g) (Circuit w h) e = cc
-reading_distinct (Circuit v g) (Refused x) e = cc
-reading_distinct (Refused x) (Circuit w h) e = cc
-reading_distinct (Refused x) (Refused y) e = ap Refused (same_refusal x y e)
+reading_distinct = answers_distinct (λ (h : Header). h.wires ∷ h.gates ∷ []) one_header
+  where
+    one_header : (h k : Header) → h.wires ∷ h.gates ∷ [] ≡ k.wires ∷ k.gates ∷ [] → h ≡ k
+    one_header h k e = let w : h.wires ≡ k.wires = cc in let g : h.gates ≡ k.gates = cc in λ i. record { wires = w i; gates = g i }

@@ -10,15 +10,15 @@ use Rattle.refusal.specs.Names.{bad_gate}
 use Rattle.refusal.specs.Checks.{Check, check, less, passed, refused}
 use Rattle.refusal.specs.Contract.{values}
 use Rattle.refusal.proofs.Outcomes.{Reaches, reaches}
-use Rattle.circuit.specs.declared.Reading.{Reading}
-use Rattle.circuit.specs.declared.Reading.TheVariants.{Circuit, Refused}
+use Rattle.circuit.specs.declared.Header.{Header}
+use Rattle.std.specs.Prelude.{Result, Ok, Err}
 use Rattle.circuit.specs.Gates.{first_bad}
 use Rattle.circuit.specs.File.{version_of, wires_of, count_of, bad_of, reason_at, file_checks, ReadsSide}
 
-pub refusing : (s : ℕ) (f : List ℕ) (x : Refusal) (r : Reading) → r ≡ Refused x → Reaches (file_checks s f) (refused x) → ReadsSide s f r
+pub refusing : (s : ℕ) (f : List ℕ) (x : Refusal) (r : Result Header Refusal) → r ≡ Err x → Reaches (file_checks s f) (refused x) → ReadsSide s f r
 refusing s f x r e h = rw (e, reaches (file_checks s f) (refused x) h)
 
-pub answering : (s : ℕ) (f : List ℕ) (w g : ℕ) → w ≡ wires_of f → g ≡ count_of f → Reaches (file_checks s f) passed → ReadsSide s f (Circuit w g)
+pub answering : (s : ℕ) (f : List ℕ) (w g : ℕ) → w ≡ wires_of f → g ≡ count_of f → Reaches (file_checks s f) passed → ReadsSide s f (Ok (record { wires = w; gates = g }))
 answering s f w g p q h = rw (reaches (file_checks s f) passed h) (ap₂ (λ (m n : ℕ). values (m ∷ n ∷ [])) p q)
 
 abbrev gate_check : ℕ → List ℕ → List Check

@@ -9,6 +9,8 @@ use lib.Dec.{leb}
 use lib.ListN.{length, get_or, take}
 use lib.Seq.{length-take-le, take_all, get_or-take}
 use borrow.Author.Tests.{leb-true, leb-false}
+use Rattle.std.specs.Prelude.{Option}
+use Rattle.refusal.specs.declared.Reason.{Reason}
 use Rattle.refusal.specs.Names.{refusal_at, bad_gate, SHORT, MARK, VERSION, WIRES, COUNT, LENGTH}
 use Rattle.refusal.specs.Checks.{Check, check, less, same, other, passed, refused, outcome}
 use Rattle.refusal.proofs.Outcomes.{reaches, behind, past}
@@ -16,7 +18,7 @@ use Rattle.circuit.specs.File.{mark_of, version_of, wires_of, count_of, bad_of, 
 use Rattle.circuit.proofs.Callers.{good_file}
 
 -- the checks of a file by what they look at
-abbrev last_checks : ℕ → ℕ → ℕ → ℕ → ℕ → List Check
+abbrev last_checks : ℕ → ℕ → ℕ → ℕ → Option Reason → List Check
 last_checks s long count bad reason =
     check (less 2048 count) (refusal_at COUNT s 0) ∷ check (other long (8 + 4 * count)) (refusal_at LENGTH s 0) ∷ check (less bad count) (bad_gate s bad reason) ∷ []
 
@@ -29,11 +31,11 @@ head_checks s mark version wires rest =
     ∷ check (less 10 wires) (refusal_at WIRES s 0)
     ∷ rest
 
-abbrev checks_of : ℕ → ℕ → ℕ → ℕ → ℕ → ℕ → ℕ → ℕ → List Check
+abbrev checks_of : ℕ → ℕ → ℕ → ℕ → ℕ → ℕ → ℕ → Option Reason → List Check
 checks_of s long mark version wires count bad reason = check (less long 8) (refusal_at SHORT s 0) ∷ head_checks s mark version wires (last_checks s long count bad reason)
 
 -- a file that is too long for 2,048 gates is refused by its header
-module _ (s count : ℕ) (l b x m d y : ℕ) (h : 8200 < l) (k : 8200 < m) where
+module _ (s count : ℕ) (l b m d : ℕ) (x y : Option Reason) (h : 8200 < l) (k : 8200 < m) where
   too_long : outcome (last_checks s l count b x) ≡ outcome (last_checks s m count d y)
   too_long = by (leb count 2048) refl
     where
@@ -51,7 +53,7 @@ module _ (s count : ℕ) (l b x m d y : ℕ) (h : 8200 < l) (k : 8200 < m) where
   by_header mark version wires =
       past _ _ (omega arith) ∙ behind _ _ _ (behind _ _ _ (behind _ _ _ (behind _ _ _ (behind _ _ _ too_long)))) ∙ sym (past _ _ (omega arith))
 
-same_header : (s l b x m m' v v' w w' c c' : ℕ) → m ≡ m' → v ≡ v' → w ≡ w' → c ≡ c' → outcome (checks_of s l m v w c b x) ≡ outcome (checks_of s l m' v' w' c' b x)
+same_header : (s l b : ℕ) (x : Option Reason) (m m' v v' w w' c c' : ℕ) → m ≡ m' → v ≡ v' → w ≡ w' → c ≡ c' → outcome (checks_of s l m v w c b x) ≡ outcome (checks_of s l m' v' w' c' b x)
 same_header s l b x m m' v v' w w' c c' p q r t = rw (p, q, r, t)
 
 module _ (s : ℕ) (f : List ℕ) where
@@ -79,7 +81,7 @@ module _ (s : ℕ) (f : List ℕ) where
           let e6 = kept 6 (omega arith) in
           let e7 = kept 7 (omega arith) in
           same_header s (length cut) (bad_of cut) (reason_at cut (bad_of cut)) (mark_of cut) (mark_of f) (version_of cut) (version_of f) (wires_of cut) (wires_of f) (count_of cut) (count_of f) (omega arith) (omega arith) e5 (omega arith)
-          ∙ by_header s (count_of f) (length cut) (bad_of cut) (reason_at cut (bad_of cut)) (length f) (bad_of f) (reason_at f (bad_of f)) (omega arith) (omega arith) (mark_of f) (version_of f) (wires_of f)
+          ∙ by_header s (count_of f) (length cut) (bad_of cut) (length f) (bad_of f) (reason_at cut (bad_of cut)) (reason_at f (bad_of f)) (omega arith) (omega arith) (mark_of f) (version_of f) (wires_of f)
 
   -- and a file that passes has no more
   pub file_whole : outcome (file_checks s f) ≡ passed → cut ≡ f

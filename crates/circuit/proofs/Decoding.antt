@@ -15,12 +15,11 @@ use Rattle.numbers.specs.Sums.{list}
 use Rattle.circuit.specs.declared.Gate.{Gate}
 use Rattle.circuit.specs.declared.Gate.TheVariants.{Cnot, Phase, Inverter}
 use Rattle.circuit.specs.declared.Placed.{Placed}
-use Rattle.circuit.specs.declared.Reason.{Reason}
-use Rattle.circuit.specs.declared.Reason.TheVariants.{Kind, Wire, Equal, Spare}
-use Rattle.circuit.specs.declared.Decoded.{Decoded}
-use Rattle.circuit.specs.declared.Decoded.TheVariants.{Good, Bad}
+use Rattle.refusal.specs.declared.Reason.{Reason}
+use Rattle.refusal.specs.declared.Reason.TheVariants.{Kind, Wire, Equal, Spare}
+use Rattle.std.specs.Prelude.{Ok, Err}
 use Rattle.circuit.specs.Bytes.{Bytes}
-use Rattle.circuit.specs.Gates.{bad_kind, bad_wire, equal_wires, bad_spare, gate_said, good, decoded, decoded_at, first_bad, gates_from, gate_bytes, bytes_of}
+use Rattle.circuit.specs.Gates.{Decoded, bad_kind, bad_wire, equal_wires, bad_spare, gate_said, good, decoded, decoded_at, first_bad, gates_from, gate_bytes, bytes_of}
 use Rattle.circuit.specs.Working.{bad, low_bad, high_bad, Sound, AllSound, Admitted, AllAdmitted}
 
 pub bytes_drop : (n : ℕ) (bs : List ℕ) → Bytes bs → Bytes (drop n bs)
@@ -34,7 +33,7 @@ pub record Decodes (v w p : ℕ) (bs : List ℕ) (g : Gate) : Type 0 where
   pub bytes : gate_bytes g ≡ get_or bs 0 0 ∷ get_or bs 1 0 ∷ get_or bs 2 0 ∷ get_or bs 3 0 ∷ []
 
 abbrev Four : ℕ → ℕ → ℕ → ℕ → ℕ → ℕ → ℕ → Type 0
-Four v w p k a b c = ((x : Reason) × (decoded v w p k a b c ≡ Bad x)) ⊎ ((g : Gate) × Decodes v w p (k ∷ a ∷ b ∷ c ∷ []) g)
+Four v w p k a b c = ((x : Reason) × (decoded v w p k a b c ≡ Err x)) ⊎ ((g : Gate) × Decodes v w p (k ∷ a ∷ b ∷ c ∷ []) g)
 
 cnot_four : (v w p a b c : ℕ) → Four v w p 1 a b c
 unfolding decoded
@@ -105,7 +104,7 @@ four_bytes v w p k a b c hb hc = by (ℕ_discrete k 1) (ℕ_discrete k 2) (ℕ_d
     by (no e) (no d) (no t) x = inl (Kind, rw (ne_eqb k 1 e, ne_eqb k 2 d, ne_eqb k 3 t))
 
 -- the writer undoes the decoder
-pub bytes_decoded : (v w p k a b c : ℕ) (q : Placed) → b < 256 → c < 256 → decoded v w p k a b c ≡ Good q
+pub bytes_decoded : (v w p k a b c : ℕ) (q : Placed) → b < 256 → c < 256 → decoded v w p k a b c ≡ Ok q
     → (gate_bytes q.gate ≡ k ∷ a ∷ b ∷ c ∷ []) × (q.position ≡ p) × Sound w q.gate
 bytes_decoded v w p k a b c q hb hc e = by (four_bytes v w p k a b c hb hc)
   where
@@ -134,22 +133,22 @@ bytes_said (Inverter i) k a b c e =
 
 -- the decoder's answer, going down its tests
 module _ (v w p k a b c : ℕ) where
-  pub bad_kind_lem : bad_kind v k ≡ true → decoded v w p k a b c ≡ Bad Kind
+  pub bad_kind_lem : bad_kind v k ≡ true → decoded v w p k a b c ≡ Err Kind
   unfolding decoded
   bad_kind_lem e = rw e
 
   module _ (h : bad_kind v k ≡ false) where
-    pub bad_wire_lem : bad_wire w k a b ≡ true → decoded v w p k a b c ≡ Bad Wire
+    pub bad_wire_lem : bad_wire w k a b ≡ true → decoded v w p k a b c ≡ Err Wire
     unfolding decoded
     bad_wire_lem e = rw (h, e)
 
     module _ (i : bad_wire w k a b ≡ false) where
-      pub equal_wires_lem : equal_wires k a b ≡ true → decoded v w p k a b c ≡ Bad Equal
+      pub equal_wires_lem : equal_wires k a b ≡ true → decoded v w p k a b c ≡ Err Equal
       unfolding decoded
       equal_wires_lem e = rw (h, i, e)
 
       module _ (j : equal_wires k a b ≡ false) where
-        pub bad_spare_lem : bad_spare k b c ≡ true → decoded v w p k a b c ≡ Bad Spare
+        pub bad_spare_lem : bad_spare k b c ≡ true → decoded v w p k a b c ≡ Err Spare
         unfolding decoded
         bad_spare_lem e = rw (h, i, j, e)
 
@@ -159,9 +158,9 @@ module _ (v w p k a b c : ℕ) where
 
 -- four tests in turn: where none holds the gate is good, and where one does it is bad for some reason
 abbrev tried : Bool → Bool → Bool → Bool → Decoded → Decoded
-tried k w e s d = cond k (Bad Kind) (cond w (Bad Wire) (cond e (Bad Equal) (cond s (Bad Spare) d)))
+tried k w e s d = cond k (Err Kind) (cond w (Err Wire) (cond e (Err Equal) (cond s (Err Spare) d)))
 
-some_hold : (k w e s : Bool) (d : Decoded) → ((k || w) || e) || s ≡ true → (x : Reason) × (tried k w e s d ≡ Bad x)
+some_hold : (k w e s : Bool) (d : Decoded) → ((k || w) || e) || s ≡ true → (x : Reason) × (tried k w e s d ≡ Err x)
 some_hold true w e s d h = (Kind, refl)
 some_hold false true e s d h = (Wire, refl)
 some_hold false false true s d h = (Equal, refl)
@@ -204,7 +203,7 @@ high_kind v w kind a b c h = by (ℕ_discrete kind 3)
 
 -- the decoder's answer where the bytes are bad, and where they are not
 module _ (v w p k a b c : ℕ) where
-  pub is_bad : bad v w k a b c ≡ true → (x : Reason) × (decoded v w p k a b c ≡ Bad x)
+  pub is_bad : bad v w k a b c ≡ true → (x : Reason) × (decoded v w p k a b c ≡ Err x)
   unfolding decoded
   is_bad = some_hold (bad_kind v k) (bad_wire w k a b) (equal_wires k a b) (bad_spare k b c) (good p (gate_said k a b c))
 
@@ -219,11 +218,11 @@ decoded_bytes v w p (Cnot c t) rest h k = rw (lt-leb w c h.0, lt-leb w t h.1, ne
 decoded_bytes v w p (Phase i a) rest h k = rw (lt-leb w i h.0) (ap (λ (n : ℕ). good p (Phase i n)) (omega arith))
 decoded_bytes v w p (Inverter i) rest h k = rw (eq-eqb v 2 k, lt-leb w i h)
 
-pub first_bad_lem : (v w n p : ℕ) (bs : List ℕ) (x : Reason) → decoded_at v w p bs ≡ Bad x → first_bad v w (suc n) p bs ≡ p
+pub first_bad_lem : (v w n p : ℕ) (bs : List ℕ) (x : Reason) → decoded_at v w p bs ≡ Err x → first_bad v w (suc n) p bs ≡ p
 unfolding first_bad
 first_bad_lem v w n p bs x e = rw e
 
-pub first_good : (v w n p : ℕ) (bs : List ℕ) (q : Placed) → decoded_at v w p bs ≡ Good q → first_bad v w (suc n) p bs ≡ first_bad v w n (suc p) (drop 4 bs)
+pub first_good : (v w n p : ℕ) (bs : List ℕ) (q : Placed) → decoded_at v w p bs ≡ Ok q → first_bad v w (suc n) p bs ≡ first_bad v w n (suc p) (drop 4 bs)
 unfolding first_bad
 first_good v w n p bs q e = rw e
 

@@ -12,10 +12,9 @@ use borrow.Author.Tests.{le-leb, lt-leb}
 use Rattle.refusal.specs.Checks.{passed, outcome}
 use Rattle.circuit.specs.declared.Gate.{Gate}
 use Rattle.circuit.specs.declared.Gate.TheVariants.{Phase}
-use Rattle.circuit.specs.declared.Decoded.{Decoded}
-use Rattle.circuit.specs.declared.Decoded.TheVariants.{Bad}
-use Rattle.circuit.specs.declared.Reason.TheVariants.{Kind}
-use Rattle.circuit.specs.Gates.{gate_said, good, decoded, decoded_at, gate_bytes, bytes_of, gates_from, first_bad}
+use Rattle.std.specs.Prelude.{Err}
+use Rattle.refusal.specs.declared.Reason.TheVariants.{Kind}
+use Rattle.circuit.specs.Gates.{Decoded, gate_said, good, decoded, decoded_at, gate_bytes, bytes_of, gates_from, first_bad}
 use Rattle.circuit.specs.Working.{bad, four_at, said_at, Sound, AllSound, AllAdmitted}
 use Rattle.circuit.specs.File.{version_of, wires_of, count_of, gates_of, gate_at, file_checks, file_of}
 use Rattle.circuit.specs.Bytes.{Bytes}
@@ -36,7 +35,7 @@ module _ (f : List ℕ) (i : ℕ) where
     pub four_said : (g : Gate) → g ≡ gate_said (get_or b 0 0) (get_or b 1 0) (get_or b 2 0) (get_or b 3 0) → g ≡ said_at f i
     four_said g p = p ∙ rw (e, le-leb (12 + 4 * i) (length f) h)
 
-  pub gate_outside : length f < 12 + 4 * i → gate_at f i ≡ Bad Kind
+  pub gate_outside : length f < 12 + 4 * i → gate_at f i ≡ Err Kind
   gate_outside h = rw (lt-leb (12 + 4 * i) (length f) h)
 
   pub said_outside : length f < 12 + 4 * i → said_at f i ≡ Phase 0 0

@@ -8,3 +8,4 @@ pub mod Parts
 pub mod FileBytes
 pub mod Walks
 pub mod Cuts
+pub mod Saying

@@ -1,15 +1,14 @@
 -- 01, "Circuit file": the header, the gate list, the checks of the table's rows 4 to 10, and the reader's answer.
-use Rattle.std.specs.Prelude.{ℕ, ◌+◌, ◌*◌, ◌/◌, ◌%◌, cond, List, [], ◌∷◌, ◌++◌, leb, length, get_or, drop}
+use Rattle.std.specs.Prelude.{ℕ, ◌+◌, ◌*◌, ◌/◌, ◌%◌, cond, List, [], ◌∷◌, ◌++◌, leb, length, get_or, drop, Option, Result, Err}
 use Rattle.refusal.specs.Names.{refusal_at, bad_gate, SHORT, MARK, VERSION, WIRES, COUNT, LENGTH}
 use Rattle.refusal.specs.Checks.{Check, check, less, same, other, outcome}
-use Rattle.refusal.specs.Contract.{Said, values, said_of, Says}
+use Rattle.refusal.specs.Contract.{Said, answer_says, Says}
 use Rattle.circuit.specs.declared.Gate.{Gate}
-use Rattle.circuit.specs.declared.Decoded.{Decoded}
-use Rattle.circuit.specs.declared.Decoded.TheVariants.{Bad}
-use Rattle.circuit.specs.declared.Reason.TheVariants.{Kind}
-use Rattle.circuit.specs.declared.Reading.{Reading}
-use Rattle.circuit.specs.declared.Reading.TheVariants.{Circuit, Refused}
-use Rattle.circuit.specs.Gates.{decoded_at, reason_of, first_bad, gates_from, bytes_of}
+use Rattle.refusal.specs.declared.Reason.{Reason}
+use Rattle.refusal.specs.declared.Reason.TheVariants.{Kind}
+use Rattle.refusal.specs.declared.Refusal.{Refusal}
+use Rattle.circuit.specs.declared.Header.{Header}
+use Rattle.circuit.specs.Gates.{Decoded, decoded_at, reason_of, first_bad, gates_from, bytes_of}
 
 -- "Bytes 50 48 47 ("PHG"), version 1 (16 bits), wires (1 byte), gate count (16 bits), then 4 bytes a gate; high byte first"; 02 §12 adds version 2
 abbrev pub mark_of : List ℕ → ℕ
@@ -34,10 +33,10 @@ bad_of f = first_bad (version_of f) (wires_of f) (count_of f) 0 (drop 8 f)
 
 -- the i-th four bytes after the header, as the gate at position i; without a kind where they do not all lie in the file
 abbrev pub gate_at : List ℕ → ℕ → Decoded
-gate_at f i = cond (leb (12 + 4 * i) (length f)) (decoded_at (version_of f) (wires_of f) i (drop (8 + 4 * i) f)) (Bad Kind)
+gate_at f i = cond (leb (12 + 4 * i) (length f)) (decoded_at (version_of f) (wires_of f) i (drop (8 + 4 * i) f)) (Err Kind)
 
 -- 02 §4: the reason of the gate at position i
-abbrev pub reason_at : List ℕ → ℕ → ℕ
+abbrev pub reason_at : List ℕ → ℕ → Option Reason
 reason_at f i = reason_of (gate_at f i)
 
 -- rows 4 to 10 of the table, for the file that is given as side s; 02 §12, "Refusal 6 is for versions other than 1 and 2"
@@ -63,14 +62,13 @@ unfoldable pub file_of : ℕ → ℕ → List Gate → List ℕ
 file_of version w gs = header_bytes version w (length gs) ++ bytes_of gs
 
 -- "The reader answers w and the gate count."
-abbrev pub reading_says : Reading → Said
-reading_says (Circuit w g) = values (w ∷ g ∷ [])
-reading_says (Refused r) = said_of r
+abbrev pub reading_says : Result Header Refusal → Said
+reading_says = answer_says (λ (h : Header). h.wires ∷ h.gates ∷ [])
 
 -- the contract of read_side: of the file that is given as side s
-abbrev pub ReadsSide : ℕ → List ℕ → Reading → Type 0
+abbrev pub ReadsSide : ℕ → List ℕ → Result Header Refusal → Type 0
 ReadsSide s f answer = Says reading_says (outcome (file_checks s f)) (wires_of f ∷ count_of f ∷ []) answer
 
 -- the contract of read: a call's only file is side 0
-abbrev pub Reads : List ℕ → Reading → Type 0
+abbrev pub Reads : List ℕ → Result Header Refusal → Type 0
 Reads = ReadsSide 0

@@ -1,11 +1,10 @@
 -- 01, "Circuit file": a gate's four bytes, which of them are bad and why, and the gates of a row of bytes.
-use Rattle.std.specs.Prelude.{ℕ, zero, suc, ◌+◌, ◌*◌, ◌/◌, ◌%◌, Bool, not, ◌||◌, ◌&&◌, cond, List, [], ◌∷◌, ◌++◌, leb, eqb, get_or, drop}
+use Rattle.std.specs.Prelude.{ℕ, zero, suc, ◌+◌, ◌*◌, ◌/◌, ◌%◌, Bool, not, ◌||◌, ◌&&◌, cond, List, [], ◌∷◌, ◌++◌, leb, eqb, get_or, drop, Option, Some, None, Result, Ok, Err}
 use Rattle.circuit.specs.declared.Gate.{Gate}
 use Rattle.circuit.specs.declared.Gate.TheVariants.{Cnot, Phase, Inverter}
-use Rattle.circuit.specs.declared.Reason.{Reason}
-use Rattle.circuit.specs.declared.Reason.TheVariants.{Kind, Wire, Equal, Spare}
-use Rattle.circuit.specs.declared.Decoded.{Decoded}
-use Rattle.circuit.specs.declared.Decoded.TheVariants.{Good, Bad}
+use Rattle.refusal.specs.declared.Reason.{Reason}
+use Rattle.refusal.specs.declared.Reason.TheVariants.{Kind, Wire, Equal, Spare}
+use Rattle.circuit.specs.declared.Placed.{Placed}
 
 -- "A gate is bad if its kind is neither 1 nor 2, .."; 02 §12, "File version 2 admits kind 3", and no other version does
 abbrev pub bad_kind : ℕ → ℕ → Bool
@@ -27,38 +26,34 @@ bad_spare kind b c = (eqb kind 1 && not (eqb c 0)) || (eqb kind 3 && (not (eqb b
 abbrev pub gate_said : ℕ → ℕ → ℕ → ℕ → Gate
 gate_said kind a b c = cond (eqb kind 1) (Cnot a b) (cond (eqb kind 3) (Inverter a) (Phase a (b * 256 + c)))
 
--- "held with its position from 0"
+-- a gate "held with its position from 0", or the reason why it is none
+abbrev pub Decoded : Type 0
+Decoded = Result Placed Reason
+
 abbrev pub good : ℕ → Gate → Decoded
-good p g = Good (record { position = p; gate = g })
+good p g = Ok (record { position = p; gate = g })
 
 -- 02 §4, "The gate decoder answers its reason: kind, wire, equal wires, spare byte, tried in that order"; 02 §12, it "takes the version too"; 01, "The zero angle is good."
 unfoldable pub decoded : ℕ → ℕ → ℕ → ℕ → ℕ → ℕ → ℕ → Decoded
 decoded version w p kind a b c =
-    cond (bad_kind version kind) (Bad Kind)
-    (cond (bad_wire w kind a b) (Bad Wire)
-    (cond (equal_wires kind a b) (Bad Equal)
-    (cond (bad_spare kind b c) (Bad Spare)
+    cond (bad_kind version kind) (Err Kind)
+    (cond (bad_wire w kind a b) (Err Wire)
+    (cond (equal_wires kind a b) (Err Equal)
+    (cond (bad_spare kind b c) (Err Spare)
     (good p (gate_said kind a b c)))))
 
--- 02 §4: the reasons by number, in its order
-abbrev pub reason_number : Reason → ℕ
-reason_number Kind = 1
-reason_number Wire = 2
-reason_number Equal = 3
-reason_number Spare = 4
-
--- the number of what is wrong with a gate; 0 where it is good
-abbrev pub reason_of : Decoded → ℕ
-reason_of (Good g) = 0
-reason_of (Bad x) = reason_number x
+-- what is wrong with a gate; nothing where it is good
+abbrev pub reason_of : Decoded → Option Reason
+reason_of (Ok g) = None
+reason_of (Err x) = Some x
 
 -- the next four bytes as the gate at position p
 abbrev pub decoded_at : ℕ → ℕ → ℕ → List ℕ → Decoded
 decoded_at version w p bs = decoded version w p (get_or bs 0 0) (get_or bs 1 0) (get_or bs 2 0) (get_or bs 3 0)
 
 abbrev pub first_if : Decoded → ℕ → ℕ → ℕ
-first_if (Good g) p rest = rest
-first_if (Bad x) p rest = p
+first_if (Ok g) p rest = rest
+first_if (Err x) p rest = p
 
 -- "the position of the first bad gate" of n from position p on; p + n where none is bad
 unfoldable pub first_bad : ℕ → ℕ → ℕ → ℕ → List ℕ → ℕ
@@ -66,8 +61,8 @@ first_bad version w zero p bs = p
 first_bad version w (suc n) p bs = first_if (decoded_at version w p bs) p (first_bad version w n (suc p) (drop 4 bs))
 
 abbrev pub cons_if : Decoded → List Gate → List Gate
-cons_if (Good g) gs = g.gate ∷ gs
-cons_if (Bad x) gs = gs
+cons_if (Ok g) gs = g.gate ∷ gs
+cons_if (Err x) gs = gs
 
 -- the gates of n fours of bytes, in order
 unfoldable pub gates_from : ℕ → ℕ → ℕ → ℕ → List ℕ → List Gate

@@ -25,6 +25,14 @@ four_at f i = get_or f (8 + 4 * i) 0 ∷ get_or f (8 + 4 * i + 1) 0 ∷ get_or f
 abbrev pub said_at : List ℕ → ℕ → Gate
 said_at f i = cond (leb (12 + 4 * i) (length f)) (gate_said (get_or f (8 + 4 * i) 0) (get_or f (8 + 4 * i + 1) 0) (get_or f (8 + 4 * i + 2) 0) (get_or f (8 + 4 * i + 3) 0)) (Phase 0 0)
 
+-- the gates that good bytes say, four a gate; what is left over says none
+unfoldable pub said_gates : List ℕ → List Gate
+said_gates (kind ∷ a ∷ b ∷ c ∷ bs) = gate_said kind a b c ∷ said_gates bs
+said_gates [] = []
+said_gates (a ∷ []) = []
+said_gates (a ∷ b ∷ []) = []
+said_gates (a ∷ b ∷ c ∷ []) = []
+
 -- a file's header with another gate count; nothing where the file has no header
 abbrev pub header_of : List ℕ → ℕ → List ℕ
 header_of f g = cond (leb 8 (length f)) (header_bytes (version_of f) (wires_of f) g) []

@@ -1,9 +1,10 @@
 // A gate from its four bytes, or the reason why they are none.
 ghost use Rattle.std.specs.Prelude.{◌≡◌, ◌+◌, ◌*◌};
-ghost use Rattle.circuit.specs.Gates.{bad_kind, bad_wire, equal_wires, bad_spare, gate_said, decoded, reason_number, reason_of};
+ghost use Rattle.circuit.specs.Gates.{bad_kind, bad_wire, equal_wires, bad_spare, gate_said, decoded};
 ghost use Rattle.circuit.specs.Working.{bad, low_bad, high_bad};
 
-use crate::{Decoded, Gate, Placed, Reason};
+use crate::{Gate, Placed};
+use refusal::Reason;
 
 // 16 bits, high byte first.
 pub(crate) fn sixteen_bits(high: u8, low: u8) -> u16
@@ -79,43 +80,29 @@ pub(crate) fn gate_of(kind: u8, a: u8, b: u8, c: u8) -> Gate
 }
 
 // The gate of four bytes on `w` wires in a file of that version, or the first of the four reasons why it is bad.
-pub fn decode(version: u16, w: u8, position: usize, kind: u8, a: u8, b: u8, c: u8) -> Decoded
+pub fn decode(
+    version: u16,
+    w: u8,
+    position: usize,
+    kind: u8,
+    a: u8,
+    b: u8,
+    c: u8,
+) -> Result<Placed, Reason>
     ensures { result ≡ decoded version w position kind a b c }
 {
     if bad_kind(version, kind) {
-        return Decoded::Bad(Reason::Kind);
+        return Err(Reason::Kind);
     }
     if bad_wire(w, kind, a, b) {
-        return Decoded::Bad(Reason::Wire);
+        return Err(Reason::Wire);
     }
     if equal_wires(kind, a, b) {
-        return Decoded::Bad(Reason::Equal);
+        return Err(Reason::Equal);
     }
     if bad_spare(kind, b, c) {
-        return Decoded::Bad(Reason::Spare);
+        return Err(Reason::Spare);
     }
     let gate = gate_of(kind, a, b, c);
-    Decoded::Good(Placed { position, gate })
-}
-
-// A reason's number.
-pub fn reason_number(reason: Reason) -> u8
-    ensures { result ≡ reason_number reason }
-{
-    match reason {
-        Reason::Kind => 1,
-        Reason::Wire => 2,
-        Reason::Equal => 3,
-        Reason::Spare => 4,
-    }
-}
-
-// The number of what is wrong with a gate, 0 where it is good.
-pub(crate) fn reason_of(gate: Decoded) -> u8
-    ensures { result ≡ reason_of gate }
-{
-    match gate {
-        Decoded::Good(_) => 0,
-        Decoded::Bad(reason) => reason_number(reason),
-    }
+    Ok(Placed { position, gate })
 }

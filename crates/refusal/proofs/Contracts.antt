@@ -6,7 +6,10 @@ use mathlib.Core.List.{List, ◌++◌}
 use lib.ListN.{length, drop}
 use Rattle.refusal.specs.declared.Refusal.{Refusal}
 use Rattle.refusal.specs.Checks.{Check, Outcome, passed, refused, outcome, settle}
-use Rattle.refusal.specs.Contract.{Said, values, said_of, Says, Meets}
+use Rattle.refusal.specs.Names.{number_of, reason_said}
+use Rattle.refusal.specs.Contract.{Said, values, said_of, answer_says, Says, Meets}
+use Rattle.refusal.proofs.Numbering.{one_cause, one_reason}
+use Rattle.std.specs.Prelude.{Result, Ok, Err, IsErrAnd}
 use Rattle.refusal.proofs.Outcomes.{Reaches, reaches, then_refused, then_passed, both_pass}
 
 -- no two answers say the same
@@ -15,11 +18,23 @@ Distinct {Answer} said = (a b : Answer) → said a ≡ said b → a ≡ b
 
 pub same_refusal : (r s : Refusal) → said_of r ≡ said_of s → r ≡ s
 same_refusal r s e =
-    let n : r.number ≡ s.number = cc in
+    let n : number_of r.cause ≡ number_of s.cause = cc in
     let d : r.side ≡ s.side = cc in
     let p : r.position ≡ s.position = cc in
-    let x : r.reason ≡ s.reason = cc in
-    λ i. record { number = n i; side = d i; position = p i; reason = x i }
+    let x : reason_said r.reason ≡ reason_said s.reason = cc in
+    λ i. record { cause = one_cause r.cause s.cause n i; side = d i; position = p i; reason = one_reason r.reason s.reason x i }
+
+-- an error that `?` hands on
+pub handed_on : {V E : Type 0} {r : Result V E} {x : E} → IsErrAnd r (λ y. y ≡ x) → r ≡ Err x
+handed_on {r = Ok v} e = absurd e
+handed_on {r = Err y} e = ap Err e
+
+-- what is answered determines an answer that is values or a refusal, where its list determines the values
+pub answers_distinct : {Values : Type 0} (list : Values → List ℕ) → ((v w : Values) → list v ≡ list w → v ≡ w) → Distinct (answer_says list)
+answers_distinct list d (Ok v) (Ok w) e = ap Ok (d v w cc)
+answers_distinct list d (Ok v) (Err r) e = cc
+answers_distinct list d (Err r) (Ok v) e = cc
+answers_distinct list d (Err r) (Err s) e = ap Err (same_refusal r s e)
 
 -- a refusal that is returned is the one that the checks give
 pub says_refused : (o : Outcome) (vs : List ℕ) (r : Refusal) → said_of r ≡ settle o said_of (values vs) → o ≡ refused r

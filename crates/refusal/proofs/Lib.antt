@@ -1,7 +1,7 @@
 pub mod Outcomes
 pub mod Given
 pub mod Passed
+pub mod Numbering
 pub mod Contracts
 pub mod Rooms
-pub mod Numbering
 pub mod Cuts

@@ -1,5 +1,7 @@
 -- 01, "Numbered refusals, in order of checking": a list of checks, and the first of them that holds.
 use Rattle.std.specs.Prelude.{ℕ, ◌<◌, ◌≤◌, ◌≡◌, Bool, not, cond, List, [], ◌∷◌, ltb, leb, eqb}
+use Rattle.std.specs.Coded.{×_prop, Unit-prop, le_prop}
+use Rattle.std.proofs.Props.{props}
 use Rattle.refusal.specs.declared.Refusal.{Refusal}
 use Rattle.refusal.specs.Names.{refusal, ROOM}
 
@@ -51,6 +53,17 @@ outcome (c ∷ cs) = cond (holds c.when) (refused c.gives) (outcome cs)
 abbrev pub AllFail : List Check → Type 0
 AllFail [] = Unit {0}
 AllFail (c ∷ cs) = Fails c.when × AllFail cs
+
+-- that it holds is one fact, which a value can carry
+pub Fails-prop : (t : Test) → IsProp (Fails t)
+Fails-prop (less a b) = le_prop
+Fails-prop (at_least a b) = le_prop
+Fails-prop (same a b) = Prim.hlevel props
+Fails-prop (other a b) = Prim.hlevel props
+
+pub AllFail-prop : (cs : List Check) → IsProp (AllFail cs)
+AllFail-prop [] = Unit-prop
+AllFail-prop (c ∷ cs) = ×_prop (Fails-prop c.when) (AllFail-prop cs)
 
 -- what follows from an outcome: one thing on a refusal, another where all passed
 abbrev pub settle {ℓ} : {A : Type ℓ} → Outcome → (Refusal → A) → A → A

@@ -1,62 +1,96 @@
--- 01, "Numbered refusals", and those of 02: the numbers by name, and a refusal of each kind.
-use Rattle.std.specs.Prelude.{ℕ}
+-- 01, "Numbered refusals", and those of 02: the causes by name, their numbers, and a refusal of each.
+use Rattle.std.specs.Prelude.{ℕ, Option, Some, None}
+use Rattle.refusal.specs.declared.Cause.{Cause}
+use Rattle.refusal.specs.declared.Cause.TheVariants.{Vars, Table, Pad, Short, Mark, Version, Wires, Count, Length, Gate, State, Unlike, Room, Loose, Allow}
+use Rattle.refusal.specs.declared.Reason.{Reason}
+use Rattle.refusal.specs.declared.Reason.TheVariants.{Kind, Wire, Equal, Spare}
 use Rattle.refusal.specs.declared.Refusal.{Refusal}
 
-abbrev pub VARS : ℕ
-VARS = 1
+abbrev pub VARS : Cause
+VARS = Vars
 
-abbrev pub TABLE : ℕ
-TABLE = 2
+abbrev pub TABLE : Cause
+TABLE = Table
 
-abbrev pub PAD : ℕ
-PAD = 3
+abbrev pub PAD : Cause
+PAD = Pad
 
-abbrev pub SHORT : ℕ
-SHORT = 4
+abbrev pub SHORT : Cause
+SHORT = Short
 
-abbrev pub MARK : ℕ
-MARK = 5
+abbrev pub MARK : Cause
+MARK = Mark
 
-abbrev pub VERSION : ℕ
-VERSION = 6
+abbrev pub VERSION : Cause
+VERSION = Version
 
-abbrev pub WIRES : ℕ
-WIRES = 7
+abbrev pub WIRES : Cause
+WIRES = Wires
 
-abbrev pub COUNT : ℕ
-COUNT = 8
+abbrev pub COUNT : Cause
+COUNT = Count
 
-abbrev pub LENGTH : ℕ
-LENGTH = 9
+abbrev pub LENGTH : Cause
+LENGTH = Length
 
-abbrev pub GATE : ℕ
-GATE = 10
+abbrev pub GATE : Cause
+GATE = Gate
 
-abbrev pub STATE : ℕ
-STATE = 11
+abbrev pub STATE : Cause
+STATE = State
 
-abbrev pub UNLIKE : ℕ
-UNLIKE = 12
+abbrev pub UNLIKE : Cause
+UNLIKE = Unlike
 
-abbrev pub ROOM : ℕ
-ROOM = 13
+abbrev pub ROOM : Cause
+ROOM = Room
 
 -- 02 §8, "17 LOOSE"
-abbrev pub LOOSE : ℕ
-LOOSE = 17
+abbrev pub LOOSE : Cause
+LOOSE = Loose
 
 -- 02 §9, "18 ALLOW"
-abbrev pub ALLOW : ℕ
-ALLOW = 18
+abbrev pub ALLOW : Cause
+ALLOW = Allow
 
--- "A refusal returns its number, the side .., and the position": of any number but 10
-abbrev pub refusal_at : ℕ → ℕ → ℕ → Refusal
-refusal_at n s p = record { number = n; side = s; position = p; reason = 0 }
+-- the number of each
+abbrev pub number_of : Cause → ℕ
+number_of Vars = 1
+number_of Table = 2
+number_of Pad = 3
+number_of Short = 4
+number_of Mark = 5
+number_of Version = 6
+number_of Wires = 7
+number_of Count = 8
+number_of Length = 9
+number_of Gate = 10
+number_of State = 11
+number_of Unlike = 12
+number_of Room = 13
+number_of Loose = 17
+number_of Allow = 18
+
+-- 02 §4: the reasons by number, in its order
+abbrev pub reason_number : Reason → ℕ
+reason_number Kind = 1
+reason_number Wire = 2
+reason_number Equal = 3
+reason_number Spare = 4
+
+-- a reason that is handed on, or 0
+abbrev pub reason_said : Option Reason → ℕ
+reason_said None = 0
+reason_said (Some x) = reason_number x
+
+-- "A refusal returns its number, the side .., and the position": of any cause but 10
+abbrev pub refusal_at : Cause → ℕ → ℕ → Refusal
+refusal_at c s p = record { cause = c; side = s; position = p; reason = None }
 
 -- "the position of the first bad gate (10 only, else 0)"; 02 §4, "Refusal 10 hands the reason on"
-abbrev pub bad_gate : ℕ → ℕ → ℕ → Refusal
-bad_gate s p x = record { number = GATE; side = s; position = p; reason = x }
+abbrev pub bad_gate : ℕ → ℕ → Option Reason → Refusal
+bad_gate s p x = record { cause = GATE; side = s; position = p; reason = x }
 
 -- a refusal of the first or only input, with no gate to name
-abbrev pub refusal : ℕ → Refusal
-refusal n = refusal_at n 0 0
+abbrev pub refusal : Cause → Refusal
+refusal c = refusal_at c 0 0

@@ -1,58 +1,83 @@
-// Document 01, "Numbered refusals": the numbers by name, and what a refusal returns.
+// Document 01, "Numbered refusals": the causes by name, and what a refusal returns.
 #![tactic(auto)]
 
 ghost use Rattle.std.specs.Prelude.{◌≡◌};
-ghost use Rattle.refusal.specs.Names.{refusal};
+ghost use Rattle.refusal.specs.Names.{refusal, refusal_at, number_of, reason_number};
 
-pub const VARS: u8 = 1;
-
-pub const TABLE: u8 = 2;
-
-pub const PAD: u8 = 3;
-
-pub const SHORT: u8 = 4;
-
-pub const MARK: u8 = 5;
-
-pub const VERSION: u8 = 6;
-
-pub const WIRES: u8 = 7;
-
-pub const COUNT: u8 = 8;
-
-pub const LENGTH: u8 = 9;
-
-pub const GATE: u8 = 10;
-
-pub const STATE: u8 = 11;
-
-pub const UNLIKE: u8 = 12;
-
-pub const ROOM: u8 = 13;
-
-// Numbers from 14 on are 02's.
-pub const LOOSE: u8 = 17;
-
-pub const ALLOW: u8 = 18;
-
-// `side` says which of a call's several like inputs is refused, from 0; `position` is that of the
-// first bad gate and `reason` what is wrong with it, both 0 for every number but GATE.
-#[derive(Clone, Copy)]
-pub struct Refusal {
-    pub number: u8,
-    pub side: u8,
-    pub position: usize,
-    pub reason: u8,
+// Each with its number in 01's table; those from 14 on are 02's.
+#[derive(Clone, Copy, PartialEq, Eq)]
+pub enum Cause {
+    Vars = 1,
+    Table = 2,
+    Pad = 3,
+    Short = 4,
+    Mark = 5,
+    Version = 6,
+    Wires = 7,
+    Count = 8,
+    Length = 9,
+    Gate = 10,
+    State = 11,
+    Unlike = 12,
+    Room = 13,
+    Loose = 17,
+    Allow = 18,
 }
 
-// The refusal of a call's first or only input, with no gate to name.
-pub fn by(number: u8) -> Refusal
-    ensures { result ≡ refusal number }
-{
-    Refusal {
-        number,
-        side: 0,
-        position: 0,
-        reason: 0,
+impl Cause {
+    pub fn number(self) -> u8
+        ensures { result ≡ number_of self }
+    {
+        self as u8
+    }
+}
+
+// What is wrong with a bad gate: its kind, a wire, equal wires or the spare byte.
+#[derive(Clone, Copy, PartialEq, Eq)]
+pub enum Reason {
+    Kind = 1,
+    Wire = 2,
+    Equal = 3,
+    Spare = 4,
+}
+
+impl Reason {
+    pub fn number(self) -> u8
+        ensures { result ≡ reason_number self }
+    {
+        self as u8
+    }
+}
+
+// `side` says which of a call's several like inputs is refused, from 0; `position` is that of the
+// first bad gate and `reason` what is wrong with it: 0 and none for every cause but Gate.
+#[derive(Clone, Copy, PartialEq, Eq)]
+pub struct Refusal {
+    pub cause: Cause,
+    pub side: u8,
+    pub position: usize,
+    pub reason: Option<Reason>,
+}
+
+impl Refusal {
+    // The refusal of the input that is given as this side, with no gate to name.
+    pub fn of_side(cause: Cause, side: u8) -> Refusal
+        ensures { result ≡ refusal_at cause side 0 }
+    {
+        Refusal {
+            cause,
+            side,
+            position: 0,
+            reason: None,
+        }
+    }
+}
+
+// The same of a call's first or only input.
+impl From<Cause> for Refusal {
+    ghost from_gives = { λ cause result. result ≡ refusal cause };
+
+    fn from(cause: Cause) -> Refusal {
+        Refusal::of_side(cause, 0)
     }
 }

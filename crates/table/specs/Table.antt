@@ -1,11 +1,10 @@
 -- 01, "Numbers and conventions": "A table is packed", and rows 1 to 3 of the refusals.
-use Rattle.std.specs.Prelude.{ℕ, ◌-◌, ◌/◌, ◌%◌, ◌^◌, min, List, [], ◌∷◌, length, get_or}
+use Rattle.std.specs.Prelude.{ℕ, ◌-◌, ◌/◌, ◌%◌, ◌^◌, min, List, [], ◌∷◌, length, get_or, Result}
 use Rattle.numbers.specs.Bits.{bit}
 use Rattle.refusal.specs.Names.{refusal, VARS, TABLE, PAD}
 use Rattle.refusal.specs.Checks.{Check, check, less, same, other, outcome}
-use Rattle.refusal.specs.Contract.{Said, values, said_of, Says}
-use Rattle.table.specs.declared.Checked.{Checked}
-use Rattle.table.specs.declared.Checked.TheVariants.{Good, Refused}
+use Rattle.refusal.specs.Contract.{Said, answer_says, Says}
+use Rattle.refusal.specs.declared.Refusal.{Refusal}
 
 -- "bit x mod 8 of byte x div 8 is f(x), lowest bit first"
 abbrev pub value_at : List ℕ → ℕ → ℕ
@@ -28,10 +27,9 @@ table_checks n t =
     ∷ []
 
 -- a good table has no value to answer
-abbrev pub checked_says : Checked → Said
-checked_says Good = values []
-checked_says (Refused r) = said_of r
+abbrev pub checked_says : Result (Unit {0}) Refusal → Said
+checked_says = answer_says (λ _. [])
 
 -- the contract of check
-abbrev pub Checks : ℕ → List ℕ → Checked → Type 0
+abbrev pub Checks : ℕ → List ℕ → Result (Unit {0}) Refusal → Type 0
 Checks n t answer = Says checked_says (outcome (table_checks n t)) [] answer

@@ -5,32 +5,26 @@ ghost use Rattle.std.specs.Prelude.{◌≡◌, ◌^◌, ◌-◌, ◌≤◌, ◌<
 ghost use Rattle.numbers.specs.Bits.{bit};
 ghost use Rattle.table.specs.Table.{value_at, Checks};
 
-use refusal::Refusal;
-
-#[derive(Drop)]
-pub enum Checked {
-    Good,
-    Refused(Refusal),
-}
+use refusal::{Cause, Refusal};
 
 // Whether `table` is the packed table of a function of n variables.
-pub fn check(n: u8, table: &[u8]) -> Checked
+pub fn check(n: u8, table: &[u8]) -> Result<(), Refusal>
     ensures { Checks n table.now result }
 {
     if n == 0 {
-        return Checked::Refused(refusal::by(refusal::VARS));
+        return Err(Cause::Vars.into());
     }
     if 8 < n {
-        return Checked::Refused(refusal::by(refusal::VARS));
+        return Err(Cause::Vars.into());
     }
     if table.len() != bytes(n) {
-        return Checked::Refused(refusal::by(refusal::TABLE));
+        return Err(Cause::Table.into());
     }
     let first = table[0];
     if used(n) <= first as u16 {
-        return Checked::Refused(refusal::by(refusal::PAD));
+        return Err(Cause::Pad.into());
     }
-    Checked::Good
+    Ok(())
 }
 
 // f(x); 0 past the table's end.

@@ -15,16 +15,16 @@ has-unused b k h e =
     omega arith
 
 pub returns-then-n-eq0 : goal.returns-then-n-eq0
-returns-then-n-eq0 c = let zero : c.args.n ≡ 0 = omega arith in refused_by _ _ c.by.ensures (inl (zero, refl))
+returns-then-n-eq0 c = let zero : c.args.n ≡ 0 = omega arith in refused_by _ _ c.into.ensures (inl (zero, refl))
 
 pub returns-then-n-gt8 : goal.returns-then-n-gt8
-returns-then-n-gt8 c = refused_by _ _ c.by-then-n-gt8.ensures (inr (omega arith, inl (omega arith, refl)))
+returns-then-n-gt8 c = refused_by _ _ c.into-then-n-gt8.ensures (inr (omega arith, inl (omega arith, refl)))
 
 pub returns-then-table-bytes : goal.returns-then-table-bytes
-returns-then-table-bytes c = refused_by _ _ c.by-then-table-bytes.ensures (inr (omega arith, inr (omega arith, inl (omega arith, refl))))
+returns-then-table-bytes c = refused_by _ _ c.into-then-table-bytes.ensures (inr (omega arith, inr (omega arith, inl (omega arith, refl))))
 
 pub returns-then-used-first : goal.returns-then-used-first
-returns-then-used-first c = refused_by _ _ c.by-then-used-first.ensures (inr (omega arith, inr (omega arith, inr (omega arith, inl (has-unused _ _ (omega arith), refl)))))
+returns-then-used-first c = refused_by _ _ c.into-then-used-first.ensures (inr (omega arith, inr (omega arith, inr (omega arith, inl (has-unused _ _ (omega arith), refl)))))
 
 pub returns : goal.returns
 returns c = all_passed _ refl (inr (omega arith, inr (omega arith, inr (omega arith, inr (div-eq_of_lt (omega arith), refl)))))
