@@ -1,12 +1,12 @@
 -- What a caller of `read` knows when it answers and when it refuses; what a file that passes is; and that no two answers say the same.
 use Prim.Native.Nat.{ℕ, ◌+◌, ◌*◌, ◌^◌, ◌≤◌}
 use native.Mathlib.Omega.{arith}
-use mathlib.Core.Path.{◌≡◌, ap}
+use mathlib.Core.Path.{◌≡◌, ap, subst}
 use mathlib.Core.List.{List, [], ◌∷◌}
 use lib.ListN.{length}
 use lib.Pow.{pow_mono}
 use Rattle.refusal.specs.declared.Refusal.{Refusal}
-use Rattle.refusal.specs.Checks.{passed, refused, outcome}
+use Rattle.refusal.specs.Checks.{passed, refused, outcome, AllFail}
 use Rattle.refusal.proofs.Passed.{passed_fail, fail_passed}
 use Rattle.refusal.proofs.Contracts.{Distinct, answers_distinct, answers_values, answers_refusal}
 use Rattle.circuit.specs.declared.Header.{Header}
@@ -44,6 +44,13 @@ good_file s f e =
 pub file_passes : (s : ℕ) (f : List ℕ) → GoodFile f → outcome (file_checks s f) ≡ passed
 file_passes s f h =
     fail_passed (file_checks s f) (h.long, (h.mark, (omega (arith, h.versioned), (h.known, (omega (arith, h.some), (h.few, (h.count, (h.whole, (h.gates, tt)))))))))
+
+-- a circuit that was read from a file is of a good one
+pub good_circuit : {f : List ℕ} → AllFail (file_checks 0 f) → GoodFile f
+good_circuit {f} h = good_file 0 f (fail_passed (file_checks 0 f) h)
+
+pub circuit_passes : {f g : List ℕ} → g ≡ f → AllFail (file_checks 0 g) → outcome (file_checks 0 f) ≡ passed
+circuit_passes {f} {g} e h = subst (λ l. outcome (file_checks 0 l) ≡ passed) e (fail_passed (file_checks 0 g) h)
 
 -- passing at one side is passing at any
 pub passes_anywhere : (s t : ℕ) (f : List ℕ) → outcome (file_checks s f) ≡ passed → outcome (file_checks t f) ≡ passed

@@ -10,9 +10,10 @@ use Rattle.circuit.specs.declared.Gate.TheVariants.{Cnot, Phase, Inverter}
 use Rattle.circuit.specs.Bytes.{Bytes}
 use Rattle.circuit.specs.Gates.{gate_said, bytes_of}
 use Rattle.circuit.specs.File.{version_of, wires_of, gates_of}
-use Rattle.circuit.specs.Working.{said_gates}
+use Rattle.circuit.specs.Working.{said_gates, AllSound}
 use Rattle.circuit.proofs.Callers.{GoodFile}
-use Rattle.circuit.proofs.Files.{file_written, rest_written}
+use Rattle.circuit.proofs.Files.{file_written, rest_written, file_sound}
+use Rattle.circuit.proofs.Decoding.{all_wider}
 
 -- fewer than four bytes say no gate
 pub none_said : (bs : List ℕ) → length bs < 4 → said_gates bs ≡ []
@@ -52,3 +53,8 @@ module _ (f : List ℕ) (bytes : Bytes f) (good : GoodFile f) where
   -- behind the header, taken as far as the file goes
   pub rest_said : said_gates (take (length f - 8) (drop 8 f)) ≡ gates_of f
   rest_said = ap said_gates (take_all (length f - 8) (drop 8 f) (omega (arith, length-drop 8 f))) ∙ file_said
+
+-- sound on ten wires, which every circuit's wires are among
+module _ (f : List ℕ) (bytes : Bytes f) (good : GoodFile f) where
+  pub said_sound : AllSound 10 (gates_of f)
+  said_sound = all_wider (wires_of f) 10 (gates_of f) good.few (file_sound f bytes good)

@@ -29,6 +29,9 @@ pub handed_on : {V E : Type 0} {r : Result V E} {x : E} → IsErrAnd r (λ y. y 
 handed_on {r = Ok v} e = absurd e
 handed_on {r = Err y} e = ap Err e
 
+pub hands_on : {Values : Type 0} (list : Values → List ℕ) (o : Outcome) (vs : List ℕ) (r : Result Values Refusal) {x : Refusal} → IsErrAnd r (λ y. y ≡ x) → o ≡ refused x → Says (answer_says list) o vs r
+hands_on list o vs r e p = rw (handed_on e, p) refl
+
 -- what is answered determines an answer that is values or a refusal, where its list determines the values
 pub answers_distinct : {Values : Type 0} (list : Values → List ℕ) → ((v w : Values) → list v ≡ list w → v ≡ w) → Distinct (answer_says list)
 answers_distinct list d (Ok v) (Ok w) e = ap Ok (d v w cc)

@@ -1,15 +1,14 @@
 -- 01, "Running, counting": a run as a recursion over the gates, and the counts; the score is by 02 §2, inverters are by 02 §12.
-use Rattle.std.specs.Prelude.{ℕ, ◌+◌, ◌*◌, ◌%◌, ◌^◌, not, List, [], ◌∷◌, ◌++◌, ◌==◌, bit_xor}
+use Rattle.std.specs.Prelude.{ℕ, ◌+◌, ◌*◌, ◌%◌, ◌^◌, not, List, [], ◌∷◌, ◌++◌, ◌==◌, bit_xor, Result}
 use Rattle.numbers.specs.Bits.{bit, indicator}
+use Rattle.refusal.specs.declared.Refusal.{Refusal}
 use Rattle.refusal.specs.Names.{refusal, STATE}
 use Rattle.refusal.specs.Checks.{Check, check, at_least, outcome}
-use Rattle.refusal.specs.Contract.{Said, values, said_of, Says}
+use Rattle.refusal.specs.Contract.{Said, answer_says, Says}
 use Rattle.circuit.specs.declared.Gate.{Gate}
 use Rattle.circuit.specs.declared.Gate.TheVariants.{Cnot, Phase, Inverter}
 use Rattle.running.specs.declared.Ran.{Ran}
-use Rattle.running.specs.declared.Ran.TheVariants.{End, Refused as RunRefused}
 use Rattle.running.specs.declared.Counted.{Counted}
-use Rattle.running.specs.declared.Counted.TheVariants.{Gates, Refused as CountRefused}
 use Rattle.circuit.specs.File.{file_checks, wires_of, gates_of}
 
 -- "CNOT: the target bit becomes target XOR control."; an inverter flips its wire's bit
@@ -43,12 +42,11 @@ abbrev pub run_checks : List ℕ → ℕ → List Check
 run_checks f start = file_checks 0 f ++ (check (at_least start (2 ^ wires_of f)) (refusal STATE) ∷ [])
 
 -- "A run answers the end state and the total."
-abbrev pub ran_says : Ran → Said
-ran_says (End s p) = values (s ∷ p ∷ [])
-ran_says (RunRefused r) = said_of r
+abbrev pub ran_says : Result Ran Refusal → Said
+ran_says = answer_says (λ (r : Ran). r.state ∷ r.phase ∷ [])
 
 -- the contract of run
-abbrev pub Runs : List ℕ → ℕ → Ran → Type 0
+abbrev pub Runs : List ℕ → ℕ → Result Ran Refusal → Type 0
 Runs f start answer = Says ran_says (outcome (run_checks f start)) (end_from (gates_of f) start ∷ phase_from (gates_of f) start ∷ []) answer
 
 -- "The count answers CNOTs, phase gates, and score."
@@ -90,10 +88,12 @@ score_by d (Inverter i ∷ gs) = score_by d gs
 abbrev pub score : List Gate → ℕ
 score gs = score_by free_turn gs
 
-abbrev pub counted_says : Counted → Said
-counted_says (Gates c p s x) = values (c ∷ p ∷ s ∷ x ∷ [])
-counted_says (CountRefused r) = said_of r
+abbrev pub counted : List Gate → Counted
+counted gs = record { cnots = cnots gs; phases = phases gs; score = score gs; inverters = inverters gs }
+
+abbrev pub counted_says : Result Counted Refusal → Said
+counted_says = answer_says (λ (c : Counted). c.cnots ∷ c.phases ∷ c.score ∷ c.inverters ∷ [])
 
 -- the contract of count
-abbrev pub Counts : List ℕ → Counted → Type 0
+abbrev pub Counts : List ℕ → Result Counted Refusal → Type 0
 Counts f answer = Says counted_says (outcome (file_checks 0 f)) (cnots (gates_of f) ∷ phases (gates_of f) ∷ score (gates_of f) ∷ inverters (gates_of f) ∷ []) answer

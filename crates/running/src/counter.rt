@@ -1,12 +1,11 @@
 // The count of a circuit's gates.
 ghost use Rattle.std.specs.Prelude.{◌≡◌, [], ◌∷◌};
-ghost use Rattle.refusal.specs.Checks.{outcome, passed};
-ghost use Rattle.running.specs.declared.Counted.TheVariants.{Gates};
-ghost use Rattle.circuit.specs.File.{count_of, gates_of, file_checks};
-ghost use Rattle.running.specs.Run.{free_turn, scores, cnots, phases, score, inverters, Counts};
+ghost use Rattle.circuit.specs.File.{gates_of};
+ghost use Rattle.running.specs.Run.{free_turn, scores, cnots, phases, score, inverters, Counts, counted};
 
 use crate::Counted;
-use circuit::{Gate, Reading, read};
+use circuit::{Circuit, Gate};
+use refusal::Refusal;
 
 // Multiples of this angle are free (02 §2): quarter and half turns.
 const FREE_TURN: u16 = 16384;
@@ -49,24 +48,21 @@ fn counts_of(gate: Gate) -> Tally
     }
 }
 
-// The counts of a good file's gates.
-fn count_gates(file: &[u8], gates: usize) -> Counted
-    requires { (outcome (file_checks 0 file.now) ≡ passed) × (gates ≡ count_of file.now) }
-    ensures { result ≡ Gates (cnots (gates_of file.now)) (phases (gates_of file.now)) (score (gates_of file.now)) (inverters (gates_of file.now)) }
+// The counts of a circuit's gates.
+pub fn count_gates(circuit: &Circuit) -> Counted
+    ensures { result ≡ counted (gates_of circuit.now.file.now) }
 {
     let mut cnots: u16 = 0;
     let mut score: u16 = 0;
     let mut inverters: u16 = 0;
-    let mut i: usize = 0;
-    while i < gates {
-        let own = counts_of(circuit::good_gate(file, i));
+    for gate in circuit.gates() {
+        let own = counts_of(gate);
         cnots += own.cnots;
         score += own.score;
         inverters += own.inverters;
-        i += 1;
     }
-    let phases = gates - ((cnots + inverters) as usize);
-    Counted::Gates {
+    let phases = circuit.gate_count() - ((cnots + inverters) as usize);
+    Counted {
         cnots: cnots as usize,
         phases,
         score: score as usize,
@@ -75,11 +71,8 @@ fn count_gates(file: &[u8], gates: usize) -> Counted
 }
 
 // The CNOTs, the phase gates, the score and the inverters of a file, or a refusal.
-pub fn count(file: &[u8]) -> Counted
+pub fn count(file: &[u8]) -> Result<Counted, Refusal>
     ensures { Counts file.now result }
 {
-    match read(file) {
-        Reading::Refused(refusal) => Counted::Refused(refusal),
-        Reading::Circuit { wires: _, gates } => count_gates(file, gates),
-    }
+    Ok(count_gates(&Circuit::read(file, 0)?))
 }

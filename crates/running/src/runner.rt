@@ -1,16 +1,15 @@
 // A run of a circuit on one starting state.
 ghost use Rattle.std.specs.Prelude.{◌≡◌, ◌<◌};
-ghost use Rattle.refusal.specs.Checks.{outcome, passed};
 ghost use Rattle.numbers.specs.Bits.{bit};
-ghost use Rattle.running.specs.declared.Ran.TheVariants.{End};
 ghost use Rattle.circuit.specs.Working.{Sound};
-ghost use Rattle.circuit.specs.File.{count_of, gates_of, file_checks};
+ghost use Rattle.circuit.specs.File.{gates_of};
 ghost use Rattle.running.specs.Run.{stepped, added, end_from, phase_from, Runs};
 ghost use Rattle.running.specs.Masks.{most_wires};
 
 use crate::Ran;
-use circuit::{Gate, Reading, read};
+use circuit::{Circuit, Gate};
 use numbers::power;
+use refusal::{Cause, Refusal};
 
 fn bit_of(state: u16, wire: u8) -> u16
     requires { wire < most_wires }
@@ -46,34 +45,26 @@ fn turn(gate: Gate, state: u16) -> u16
     }
 }
 
-// The run of a good file's gates.
-fn run_gates(file: &[u8], gates: usize, start: u16) -> Ran
-    requires { (outcome (file_checks 0 file.now) ≡ passed) × (gates ≡ count_of file.now) }
-    ensures { result ≡ End (end_from (gates_of file.now) start) (phase_from (gates_of file.now) start) }
+// The run of a circuit's gates.
+fn run_gates(circuit: &Circuit, start: u16) -> Ran
+    ensures { (result.state ≡ end_from (gates_of circuit.now.file.now) start) × (result.phase ≡ phase_from (gates_of circuit.now.file.now) start) }
 {
     let mut state: u16 = start;
     let mut phase: u16 = 0;
-    let mut i: usize = 0;
-    while i < gates {
-        let gate = circuit::good_gate(file, i);
-        phase = std::num::wrapping_add_u16(phase, turn(gate, state));
+    for gate in circuit.gates() {
+        phase = phase.wrapping_add(turn(gate, state));
         state = step(gate, state);
-        i += 1;
     }
-    Ran::End { state, phase }
+    Ran { state, phase }
 }
 
 // The end state and the total phase of a run from `start`, or a refusal.
-pub fn run(file: &[u8], start: u16) -> Ran
+pub fn run(file: &[u8], start: u16) -> Result<Ran, Refusal>
     ensures { Runs file.now start result }
 {
-    match read(file) {
-        Reading::Refused(refusal) => Ran::Refused(refusal),
-        Reading::Circuit { wires, gates } => {
-            if (start as usize) >= power(wires) {
-                return Ran::Refused(refusal::by(refusal::STATE));
-            }
-            run_gates(file, gates, start)
-        }
+    let circuit = Circuit::read(file, 0)?;
+    if (start as usize) >= power(circuit.wires()) {
+        return Err(Cause::State.into());
     }
+    Ok(run_gates(&circuit, start))
 }

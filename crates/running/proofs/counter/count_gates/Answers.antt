@@ -1,34 +1,53 @@
-use Rattle.std.proofs.Common.{◌+◌, arith}
-use Rattle.circuit.proofs.Callers.{good_file}
-use Rattle.circuit.proofs.Walks.{walk_goes_on}
+use Rattle.std.proofs.Common.{length, sym, ap, ◌∙◌, arith}
+use Rattle.circuit.specs.File.{gates_of}
+use Rattle.circuit.specs.Working.{said_gates}
+use Rattle.circuit.proofs.Callers.{good_circuit}
+use Rattle.circuit.proofs.Files.{length-gates}
+use Rattle.circuit.proofs.Walks.{walk_starts, walk_goes_on, walk_ends}
 use Rattle.running.specs.Working.{count_step}
 use Rattle.running.proofs.Counts.{one_counted}
-use Rattle.running.proofs.Loops.{count_ends}
+use Rattle.running.proofs.Loops.{count_fits, count_ends}
 use Rattle.running.proofs.Stepping.{count_stepped}
 use Rattle.running.proofs.counter.count_gates.Goals as goal
 
+pub loop-gate-init : goal.loop-gate-init
+loop-gate-init c =
+    let i = c.args.circuit.now in
+    let f = i.file.now in
+    let good = good_circuit {f = f} i.good in
+    let e = ap (λ s. said_gates s.left.now) c.into_iter-gate-iterator.ensures.into_iter_gives ∙ c.gates-gate-items.ensures in
+    (walk_starts count_step (gates_of f) (0, 0, 0) e, omega (arith, ap length e, length-gates f i.bytes good, good.count))
+
 pub overflow_add-cnots : goal.overflow_add-cnots
 overflow_add-cnots c = let e = c.counts_of-own.ensures in
-    omega (arith, c.loop-i.invariant.1, (good_file 0 c.args.file.now c.requires.0).count, c.requires.1, one_counted c.good_gate.result, e.0, e.1, e.2)
+    omega (arith, c.loop-gate.invariant.1, ap length c.in-Some.ensures.steps, one_counted c.in-Some.gate, e.0, e.1, e.2)
 
 pub overflow_add-score : goal.overflow_add-score
 overflow_add-score c = let e = c.counts_of-own.ensures in
-    omega (arith, c.loop-i.invariant.1, (good_file 0 c.args.file.now c.requires.0).count, c.requires.1, one_counted c.good_gate.result, e.0, e.1, e.2)
+    omega (arith, c.loop-gate.invariant.1, ap length c.in-Some.ensures.steps, one_counted c.in-Some.gate, e.0, e.1, e.2)
 
 pub overflow_add-inverters : goal.overflow_add-inverters
 overflow_add-inverters c = let e = c.counts_of-own.ensures in
-    omega (arith, c.loop-i.invariant.1, (good_file 0 c.args.file.now c.requires.0).count, c.requires.1, one_counted c.good_gate.result, e.0, e.1, e.2)
+    omega (arith, c.loop-gate.invariant.1, ap length c.in-Some.ensures.steps, one_counted c.in-Some.gate, e.0, e.1, e.2)
 
-pub loop-i-preserved : goal.loop-i-preserved
-loop-i-preserved c = let a = c.args in
-    let taken = c.good_gate in
+pub loop-gate-preserved : goal.loop-gate-preserved
+loop-gate-preserved c =
+    let at = c.loop-gate in
+    let next = c.in-Some.ensures.steps in
     let r = c.counts_of-own.result in
     let e = c.counts_of-own.ensures in (
-      walk_goes_on a.file.now (λ j. (c.type_inv.file j).fits) (good_file 0 c.args.file.now c.requires.0) c.loop-i.i taken.result (omega (arith, c.requires.1)) taken.ensures count_step (0, 0, 0) (c.loop-i.cnots, c.loop-i.score, c.loop-i.inverters) (c.loop-i.cnots + r.cnots, c.loop-i.score + r.score, c.loop-i.inverters + r.inverters)
-          (count_stepped taken.result c.loop-i.cnots c.loop-i.score c.loop-i.inverters r.cnots r.score r.inverters e.0 e.1 e.2) c.loop-i.invariant.0,
-      omega (arith, c.loop-i.invariant.1, one_counted taken.result, e.0, e.1, e.2),
+      walk_goes_on count_step (gates_of c.args.circuit.now.file.now) (0, 0, 0) next (count_stepped c.in-Some.gate at.cnots at.score at.inverters r.cnots r.score r.inverters e.0 e.1 e.2) at.invariant.0,
+      omega (arith, at.invariant.1, ap length next, one_counted c.in-Some.gate, e.0, e.1, e.2),
     )
 
+pub overflow_sub-phases : goal.overflow_sub-phases
+overflow_sub-phases c =
+    let i = c.args.circuit.now in
+    let gs = gates_of i.file.now in
+    omega (arith, count_fits gs (walk_ends count_step gs (0, 0, 0) c.in-None.ensures.steps.0 c.loop-gate.invariant.0), length-gates i.file.now i.bytes (good_circuit i.good), c.gate_count.ensures)
+
 pub returns : goal.returns
-returns c = let a = c.args in
-    count_ends a.file.now (λ j. (c.type_inv.file j).fits) (good_file 0 c.args.file.now c.requires.0) c.loop-i.i (omega (arith, c.requires.1)) a.gates c.loop-i.cnots c.loop-i.score c.loop-i.inverters c.requires.1 c.loop-i.invariant.0
+returns c =
+    let i = c.args.circuit.now in
+    let gs = gates_of i.file.now in
+    count_ends gs (c.gate_count.ensures ∙ sym (length-gates i.file.now i.bytes (good_circuit i.good))) (walk_ends count_step gs (0, 0, 0) c.in-None.ensures.steps.0 c.loop-gate.invariant.0)
