@@ -16,21 +16,21 @@ use Rattle.spectrum.proofs.Angles.{coefficient_size}
 use Rattle.circuit.specs.Bytes.{put_at}
 use Rattle.circuit.specs.File.{file_of}
 use Rattle.circuit.proofs.Writing.{put_front}
-use Rattle.build.specs.declared.Built.TheVariants.{Length, Refused}
+use Rattle.std.specs.Prelude.{Ok, Err}
 use Rattle.build.specs.Construction.{minus, construction, built_file, built_says, Builds}
 use Rattle.build.specs.Working.{parts}
 use Rattle.build.proofs.Circuits.{parts_same}
 use Rattle.build.proofs.Files.{built_long}
 
 module _ (n : ℕ) (t before : List ℕ) where
-  pub table_fails : (r : Refusal) → outcome (table_checks n t) ≡ refused r → Builds n t before (Refused r) before
-  table_fails r o = earlier_refused built_says (table_checks n t) (2 ^ (n + 4)) (2 ^ (n + 4) ∷ []) (built_file n t) before (Refused r) r refl o
+  pub table_fails : (r : Refusal) → outcome (table_checks n t) ≡ refused r → Builds n t before (Err r) before
+  table_fails r o = earlier_refused built_says (table_checks n t) (2 ^ (n + 4)) (2 ^ (n + 4) ∷ []) (built_file n t) before (Err r) r refl o
 
-  pub room_fails : outcome (table_checks n t) ≡ passed → length before < 2 ^ (n + 4) → (r : Refusal) → r ≡ refusal ROOM → Builds n t before (Refused r) before
-  room_fails o h r p = room_refused built_says (table_checks n t) (2 ^ (n + 4)) (2 ^ (n + 4) ∷ []) (built_file n t) before o h (Refused r) r refl p
+  pub room_fails : outcome (table_checks n t) ≡ passed → length before < 2 ^ (n + 4) → (r : Refusal) → r ≡ refusal ROOM → Builds n t before (Err r) before
+  room_fails o h r p = room_refused built_says (table_checks n t) (2 ^ (n + 4)) (2 ^ (n + 4) ∷ []) (built_file n t) before o h (Err r) r refl p
 
-  pub answered : outcome (table_checks n t) ≡ passed → 2 ^ (n + 4) ≤ length before → (k : ℕ) → k ≡ 2 ^ (n + 4) → (after : List ℕ) → after ≡ built_file n t ++ drop (length (built_file n t)) before → Builds n t before (Length k) after
-  answered o h k p after q = room_enough built_says (table_checks n t) (2 ^ (n + 4)) (2 ^ (n + 4) ∷ []) (built_file n t) before o h (Length k) after (ap (λ (m : ℕ). values (m ∷ [])) p) q
+  pub answered : outcome (table_checks n t) ≡ passed → 2 ^ (n + 4) ≤ length before → (k : ℕ) → k ≡ 2 ^ (n + 4) → (after : List ℕ) → after ≡ built_file n t ++ drop (length (built_file n t)) before → Builds n t before (Ok k) after
+  answered o h k p after q = room_enough built_says (table_checks n t) (2 ^ (n + 4)) (2 ^ (n + 4) ∷ []) (built_file n t) before o h (Ok k) after (ap (λ (m : ℕ). values (m ∷ [])) p) q
 
 -- ---- the row of coefficients, then zeros
 

@@ -9,8 +9,8 @@ use Rattle.spectrum.specs.Spectrum.{theta}
 use Rattle.circuit.specs.declared.Gate.{Gate}
 use Rattle.circuit.specs.declared.Gate.TheVariants.{Cnot, Phase}
 use Rattle.circuit.specs.File.{file_of}
-use Rattle.build.specs.declared.Built.{Built}
-use Rattle.build.specs.declared.Built.TheVariants.{Length, Refused}
+use Rattle.std.specs.Prelude.{Result, Ok, Err}
+use Rattle.refusal.specs.declared.Refusal.{Refusal}
 use Rattle.build.specs.Gray.{turned, word}
 
 -- one list of gates after another
@@ -55,10 +55,10 @@ abbrev pub build_checks : ℕ → List ℕ → ℕ → List Check
 build_checks n t room = table_checks n t ++ room_check room (2 ^ (n + 4))
 
 -- the answer is the file's length
-abbrev pub built_says : Built → Said
-built_says (Length l) = values (l ∷ [])
-built_says (Refused r) = said_of r
+abbrev pub built_says : Result ℕ Refusal → Said
+built_says (Ok l) = values (l ∷ [])
+built_says (Err r) = said_of r
 
 -- the contract of build
-abbrev pub Builds : ℕ → List ℕ → List ℕ → Built → List ℕ → Type 0
+abbrev pub Builds : ℕ → List ℕ → List ℕ → Result ℕ Refusal → List ℕ → Type 0
 Builds n t out answer after = Meets built_says (outcome (build_checks n t (length out))) (2 ^ (n + 4) ∷ []) (built_file n t) out answer after

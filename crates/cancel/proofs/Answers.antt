@@ -18,8 +18,8 @@ use Rattle.circuit.specs.File.{version_of, wires_of, gates_of, file_checks, head
 use Rattle.circuit.specs.Working.{said_at, header_of}
 use Rattle.circuit.proofs.Files.{length-file}
 use Rattle.circuit.proofs.Writing.{header_of_lem, file_put}
+use Rattle.std.specs.Prelude.{Result, Err}
 use Rattle.cancel.specs.declared.Cancelled.{Cancelled}
-use Rattle.cancel.specs.declared.Cancelled.TheVariants.{File, Refused}
 use Rattle.cancel.specs.Cancel.{cancelled, steps, cancelled_file, most_allowed, allow_check, cancelled_says, Cancels}
 use Rattle.cancel.specs.Working.{most_gates, gates_at, Remains}
 use Rattle.cancel.proofs.Files.{few_gates}
@@ -30,24 +30,24 @@ module _ (f : List ℕ) (most : ℕ) (before : List ℕ) where
   abbrev early : List Check
   early = file_checks 0 f ++ allow_check most
 
-  early_fails : (r : Refusal) → outcome early ≡ refused r → Cancels f most before (Refused r) before
-  early_fails r e = earlier_refused cancelled_says early (length (cancelled_file f most)) (cancel_values f most) (cancelled_file f most) before (Refused r) r refl e
+  early_fails : (r : Refusal) → outcome early ≡ refused r → Cancels f most before (Err r) before
+  early_fails r e = earlier_refused cancelled_says early (length (cancelled_file f most)) (cancel_values f most) (cancelled_file f most) before (Err r) r refl e
 
-  pub file_fails : (r : Refusal) → outcome (file_checks 0 f) ≡ refused r → Cancels f most before (Refused r) before
+  pub file_fails : (r : Refusal) → outcome (file_checks 0 f) ≡ refused r → Cancels f most before (Err r) before
   file_fails r e = early_fails r (then_refused (file_checks 0 f) (allow_check most) r e)
 
   module _ (e : outcome (file_checks 0 f) ≡ passed) where
-    pub allow_fails : most_allowed < most → (r : Refusal) → r ≡ refusal ALLOW → Cancels f most before (Refused r) before
+    pub allow_fails : most_allowed < most → (r : Refusal) → r ≡ refusal ALLOW → Cancels f most before (Err r) before
     allow_fails h r p = early_fails r (then_passed (file_checks 0 f) (allow_check most) e ∙ reaches (allow_check most) (refused r) (inl (h, ap refused p)))
 
     module _ (h : most ≤ most_allowed) where
       early_passes : outcome early ≡ passed
       early_passes = then_passed (file_checks 0 f) (allow_check most) e ∙ reaches (allow_check most) passed (inr (h, refl))
 
-      pub room_fails : length before < length (cancelled_file f most) → (r : Refusal) → r ≡ refusal ROOM → Cancels f most before (Refused r) before
-      room_fails k r p = room_refused cancelled_says early (length (cancelled_file f most)) (cancel_values f most) (cancelled_file f most) before early_passes k (Refused r) r refl p
+      pub room_fails : length before < length (cancelled_file f most) → (r : Refusal) → r ≡ refusal ROOM → Cancels f most before (Err r) before
+      room_fails k r p = room_refused cancelled_says early (length (cancelled_file f most)) (cancel_values f most) (cancelled_file f most) before early_passes k (Err r) r refl p
 
-      pub answered : length (cancelled_file f most) ≤ length before → (r : Cancelled) (l n : ℕ) → r ≡ File l n → l ≡ length (cancelled_file f most) → n ≡ steps most (gates_of f)
+      pub answered : length (cancelled_file f most) ≤ length before → (r : Result Cancelled Refusal) (l n : ℕ) → r ≡ File l n → l ≡ length (cancelled_file f most) → n ≡ steps most (gates_of f)
           → (after : List ℕ) → after ≡ cancelled_file f most ++ drop (length (cancelled_file f most)) before → Cancels f most before r after
       answered k r l n d p q after t =
           room_enough cancelled_says early (length (cancelled_file f most)) (cancel_values f most) (cancelled_file f most) before early_passes k r after

@@ -7,8 +7,8 @@ use Rattle.refusal.specs.declared.Refusal.{Refusal}
 use Rattle.refusal.specs.Checks.{passed, refused, outcome}
 use Rattle.refusal.proofs.Contracts.{Distinct, same_refusal, meets_values, meets_refusal}
 use Rattle.circuit.specs.File.{gates_of}
+use Rattle.std.specs.Prelude.{Result, Err}
 use Rattle.cancel.specs.declared.Cancelled.{Cancelled}
-use Rattle.cancel.specs.declared.Cancelled.TheVariants.{File, Refused}
 use Rattle.cancel.specs.Cancel.{steps, cancelled_file, cancel_checks, cancelled_says, Cancels}
 
 -- what it answers
@@ -22,17 +22,17 @@ pub record Answered (f : List ℕ) (most : ℕ) (before : List ℕ) (l n : ℕ) 
   pub number : n ≡ steps most (gates_of f)
   pub writes : after ≡ cancelled_file f most ++ drop (length (cancelled_file f most)) before
 
-module _ (f : List ℕ) (most : ℕ) (before : List ℕ) (r : Cancelled) (after : List ℕ) (m : Cancels f most before r after) where
+module _ (f : List ℕ) (most : ℕ) (before : List ℕ) (r : Result Cancelled Refusal) (after : List ℕ) (m : Cancels f most before r after) where
   pub cancel_answers : (l n : ℕ) → r ≡ File l n → Answered f most before l n after
   cancel_answers l n e =
       let v = meets_values cancelled_says (outcome (cancel_checks f most (length before))) (cancel_values f most) (cancelled_file f most) before r after m (l ∷ n ∷ []) (ap cancelled_says e) in
       record { passes = v.0; long = cc v.1; number = cc v.1; writes = v.2 }
 
-  pub cancel_refuses : (x : Refusal) → r ≡ Refused x → (outcome (cancel_checks f most (length before)) ≡ refused x) × (after ≡ before)
+  pub cancel_refuses : (x : Refusal) → r ≡ Err x → (outcome (cancel_checks f most (length before)) ≡ refused x) × (after ≡ before)
   cancel_refuses x e = meets_refusal cancelled_says (outcome (cancel_checks f most (length before))) (cancel_values f most) (cancelled_file f most) before r after m x (ap cancelled_says e)
 
 pub cancelled_distinct : Distinct cancelled_says
 cancelled_distinct (File l n) (File m k) e = cc
-cancelled_distinct (File l n) (Refused r) e = cc
-cancelled_distinct (Refused r) (File m k) e = cc
-cancelled_distinct (Refused r) (Refused s) e = ap Refused (same_refusal r s e)
+cancelled_distinct (File l n) (Err r) e = cc
+cancelled_distinct (Err r) (File m k) e = cc
+cancelled_distinct (Err r) (Err s) e = ap Err (same_refusal r s e)

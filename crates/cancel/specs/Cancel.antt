@@ -6,8 +6,9 @@ use Rattle.refusal.specs.Contract.{Said, values, said_of, Meets}
 use Rattle.circuit.specs.declared.Gate.{Gate}
 use Rattle.circuit.specs.declared.Gate.TheVariants.{Cnot, Phase, Inverter}
 use Rattle.circuit.specs.File.{version_of, wires_of, gates_of, file_checks, file_of}
+use Rattle.std.specs.Prelude.{Result, Err}
+use Rattle.refusal.specs.declared.Refusal.{Refusal}
 use Rattle.cancel.specs.declared.Cancelled.{Cancelled}
-use Rattle.cancel.specs.declared.Cancelled.TheVariants.{File, Refused}
 
 -- "equal .. CNOTs": the same control and the same target
 abbrev pub twins : Gate → Gate → Bool
@@ -59,11 +60,11 @@ abbrev pub cancel_checks : List ℕ → ℕ → ℕ → List Check
 cancel_checks f most room = file_checks 0 f ++ (allow_check most ++ room_check room (length (cancelled_file f most)))
 
 -- the new file's length, and "the answer says how many pairs went"
-abbrev pub cancelled_says : Cancelled → Said
+abbrev pub cancelled_says : Result Cancelled Refusal → Said
 cancelled_says (File l pairs) = values (l ∷ pairs ∷ [])
-cancelled_says (Refused r) = said_of r
+cancelled_says (Err r) = said_of r
 
 -- the contract of cancel
-abbrev pub Cancels : List ℕ → ℕ → List ℕ → Cancelled → List ℕ → Type 0
+abbrev pub Cancels : List ℕ → ℕ → List ℕ → Result Cancelled Refusal → List ℕ → Type 0
 Cancels f most out answer after =
     Meets cancelled_says (outcome (cancel_checks f most (length out))) (length (cancelled_file f most) ∷ steps most (gates_of f) ∷ []) (cancelled_file f most) out answer after

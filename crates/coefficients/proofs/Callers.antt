@@ -7,11 +7,9 @@ use Rattle.refusal.specs.declared.Refusal.{Refusal}
 use Rattle.refusal.specs.Checks.{Outcome, passed, refused, outcome}
 use Rattle.refusal.specs.Contract.{Said, values, said_of}
 use Rattle.refusal.proofs.Contracts.{Distinct, answers_values, answers_refusal}
-use Rattle.table.specs.declared.Checked.{Checked}
-use Rattle.table.specs.declared.Checked.TheVariants.{Good, Refused as BadTable}
+use Rattle.std.specs.Prelude.{Result, Ok, Err}
+use Rattle.circuit.specs.declared.Header.{Header}
 use Rattle.table.specs.Table.{table_checks, value_at, checked_says}
-use Rattle.circuit.specs.declared.Reading.{Reading}
-use Rattle.circuit.specs.declared.Reading.TheVariants.{Circuit, Refused as BadFile}
 use Rattle.circuit.specs.Bytes.{put_at}
 use Rattle.circuit.specs.File.{wires_of, count_of, gates_of, file_checks, reading_says}
 use Rattle.coefficients.specs.Coefficients.{coefficients, listed_ends, ideal_coefficients, ideal_ends}
@@ -44,7 +42,7 @@ module _ {Answer : Type 0} (said : Answer → Said) (o : Outcome) (vs cs es row�
       let q = answers_refusal said o vs answer s.says r e in
       record { refuses = q; row = rw q at s.row; ends = rw q at s.ends }
 
-module _ (side : ℕ) (f row₀ ends₀ : List ℕ) (answer : Reading) (row₁ ends₁ : List ℕ) (s : Summarises side f row₀ ends₀ answer row₁ ends₁) where
+module _ (side : ℕ) (f row₀ ends₀ : List ℕ) (answer : Result Header Refusal) (row₁ ends₁ : List ℕ) (s : Summarises side f row₀ ends₀ answer row₁ ends₁) where
   abbrev file_outcome : Outcome
   file_outcome = outcome (file_checks side f)
 
@@ -56,17 +54,17 @@ module _ (side : ℕ) (f row₀ ends₀ : List ℕ) (answer : Reading) (row₁ e
       let r = answers reading_says file_outcome said (coefficients (wires_of f) (gates_of f)) (listed_ends (wires_of f) (gates_of f)) row₀ ends₀ answer row₁ ends₁ s (w ∷ g ∷ []) (ap reading_says e) in
       (r.0, cc r.1, cc r.1)
 
-  pub summarise_refuses : (r : Refusal) → answer ≡ BadFile r → Unsummed file_outcome r row₀ ends₀ row₁ ends₁
+  pub summarise_refuses : (r : Refusal) → answer ≡ Err r → Unsummed file_outcome r row₀ ends₀ row₁ ends₁
   summarise_refuses r e = refuses reading_says file_outcome said (coefficients (wires_of f) (gates_of f)) (listed_ends (wires_of f) (gates_of f)) row₀ ends₀ answer row₁ ends₁ s r (ap reading_says e)
 
-module _ (n : ℕ) (t row₀ ends₀ : List ℕ) (answer : Checked) (row₁ ends₁ : List ℕ) (s : SummarisesIdeal n t row₀ ends₀ answer row₁ ends₁) where
+module _ (n : ℕ) (t row₀ ends₀ : List ℕ) (answer : Result (Unit {0}) Refusal) (row₁ ends₁ : List ℕ) (s : SummarisesIdeal n t row₀ ends₀ answer row₁ ends₁) where
   abbrev table_outcome : Outcome
   table_outcome = outcome (table_checks n t)
 
-  pub ideal_answers : answer ≡ Good → Summed table_outcome (ideal_coefficients n (value_at t)) (ideal_ends n) row₀ ends₀ row₁ ends₁
+  pub ideal_answers : answer ≡ Ok tt → Summed table_outcome (ideal_coefficients n (value_at t)) (ideal_ends n) row₀ ends₀ row₁ ends₁
   ideal_answers e = (answers checked_says table_outcome [] (ideal_coefficients n (value_at t)) (ideal_ends n) row₀ ends₀ answer row₁ ends₁ s [] (ap checked_says e)).0
 
-  pub ideal_refuses : (r : Refusal) → answer ≡ BadTable r → Unsummed table_outcome r row₀ ends₀ row₁ ends₁
+  pub ideal_refuses : (r : Refusal) → answer ≡ Err r → Unsummed table_outcome r row₀ ends₀ row₁ ends₁
   ideal_refuses r e = refuses checked_says table_outcome [] (ideal_coefficients n (value_at t)) (ideal_ends n) row₀ ends₀ answer row₁ ends₁ s r (ap checked_says e)
 
 -- what stands in a slice that had room enough

@@ -2,9 +2,10 @@
 use Rattle.std.specs.Prelude.{◌≡◌, ℕ, List, [], ◌∷◌}
 use Rattle.refusal.specs.Checks.{Outcome, outcome, settle}
 use Rattle.refusal.specs.Contract.{Said, Says}
-use Rattle.table.specs.declared.Checked.{Checked}
+use Rattle.std.specs.Prelude.{Result}
+use Rattle.refusal.specs.declared.Refusal.{Refusal}
+use Rattle.circuit.specs.declared.Header.{Header}
 use Rattle.table.specs.Table.{table_checks, value_at, checked_says}
-use Rattle.circuit.specs.declared.Reading.{Reading}
 use Rattle.circuit.specs.Bytes.{put_at}
 use Rattle.circuit.specs.File.{wires_of, count_of, gates_of, file_checks, reading_says}
 use Rattle.coefficients.specs.Coefficients.{coefficients, listed_ends, ideal_coefficients, ideal_ends}
@@ -20,12 +21,12 @@ pub record SumsUp {Answer : Type 0} (said : Answer → Said) (o : Outcome) (vs c
   pub ends : Puts o es ends₀ ends₁
 
 -- the contract of summarise: the reader's answer, and the circuit's summary
-abbrev pub Summarises : ℕ → List ℕ → List ℕ → List ℕ → Reading → List ℕ → List ℕ → Type 0
+abbrev pub Summarises : ℕ → List ℕ → List ℕ → List ℕ → Result Header Refusal → List ℕ → List ℕ → Type 0
 Summarises side f row₀ ends₀ answer row₁ ends₁ =
     SumsUp reading_says (outcome (file_checks side f)) (wires_of f ∷ count_of f ∷ []) (coefficients (wires_of f) (gates_of f)) (listed_ends (wires_of f) (gates_of f))
     row₀ ends₀ answer row₁ ends₁
 
 -- the contract of summarise_ideal: the table's check, and the ideal's summary
-abbrev pub SummarisesIdeal : ℕ → List ℕ → List ℕ → List ℕ → Checked → List ℕ → List ℕ → Type 0
+abbrev pub SummarisesIdeal : ℕ → List ℕ → List ℕ → List ℕ → Result (Unit {0}) Refusal → List ℕ → List ℕ → Type 0
 SummarisesIdeal n t row₀ ends₀ answer row₁ ends₁ =
     SumsUp checked_says (outcome (table_checks n t)) [] (ideal_coefficients n (value_at t)) (ideal_ends n) row₀ ends₀ answer row₁ ends₁

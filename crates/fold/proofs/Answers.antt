@@ -15,8 +15,8 @@ use Rattle.running.specs.Run.{free_turn, scores, cnots, score, inverters}
 use Rattle.circuit.proofs.Callers.{good_file}
 use Rattle.circuit.proofs.Files.{length-file}
 use Rattle.circuit.proofs.Writing.{put_fits, put_put}
+use Rattle.std.specs.Prelude.{Ok, Err}
 use Rattle.fold.specs.declared.Folded.{Folded}
-use Rattle.fold.specs.declared.Folded.TheVariants.{File, Refused}
 use Rattle.running.specs.Masks.{most_wires}
 use Rattle.running.specs.Working.{most_groups, totals_of}
 use Rattle.running.proofs.Groups.{total_at_lem}
@@ -28,17 +28,17 @@ use Rattle.fold.proofs.Files.{few_gates}
 use Rattle.fold.proofs.Callers.{fold_values}
 
 module _ (f before : List ℕ) where
-  pub file_fails : (r : Refusal) → outcome (file_checks 0 f) ≡ refused r → Folds f before (Refused r) before
-  file_fails r e = earlier_refused folded_says (file_checks 0 f) (length (folded_file f)) (fold_values f) (folded_file f) before (Refused r) r refl e
+  pub file_fails : (r : Refusal) → outcome (file_checks 0 f) ≡ refused r → Folds f before (Err r) before
+  file_fails r e = earlier_refused folded_says (file_checks 0 f) (length (folded_file f)) (fold_values f) (folded_file f) before (Err r) r refl e
 
   module _ (e : outcome (file_checks 0 f) ≡ passed) where
-    pub room_fails : length before < length (folded_file f) → (r : Refusal) → r ≡ refusal ROOM → Folds f before (Refused r) before
-    room_fails h r p = room_refused folded_says (file_checks 0 f) (length (folded_file f)) (fold_values f) (folded_file f) before e h (Refused r) r refl p
+    pub room_fails : length before < length (folded_file f) → (r : Refusal) → r ≡ refusal ROOM → Folds f before (Err r) before
+    room_fails h r p = room_refused folded_says (file_checks 0 f) (length (folded_file f)) (fold_values f) (folded_file f) before e h (Err r) r refl p
 
-    pub answered : length (folded_file f) ≤ length before → (r : Folded) (l b a : ℕ) → r ≡ File l b a → l ≡ length (folded_file f) → b ≡ score (gates_of f) → a ≡ score (folded (wires_of f) (gates_of f))
-        → (after : List ℕ) → after ≡ folded_file f ++ drop (length (folded_file f)) before → Folds f before r after
-    answered h r l b a d p q s after t =
-        room_enough folded_says (file_checks 0 f) (length (folded_file f)) (fold_values f) (folded_file f) before e h r after (ap folded_says d ∙ (λ i. values (p i ∷ q i ∷ s i ∷ []))) t
+    pub answered : length (folded_file f) ≤ length before → (a : Folded) → a.length ≡ length (folded_file f) → a.before ≡ score (gates_of f) → a.after ≡ score (folded (wires_of f) (gates_of f))
+        → (after : List ℕ) → after ≡ folded_file f ++ drop (length (folded_file f)) before → Folds f before (Ok a) after
+    answered h a p q s after t =
+        room_enough folded_says (file_checks 0 f) (length (folded_file f)) (fold_values f) (folded_file f) before e h (Ok a) after (λ i. values (p i ∷ q i ∷ s i ∷ [])) t
 
 length-totals : (f : List ℕ) → length (totals_of f) ≡ most_groups
 unfolding totals_of

@@ -19,8 +19,8 @@ use Rattle.running.proofs.Masks.{own_alike}
 use Rattle.running.proofs.Groups.{total_at_lem}
 use Rattle.fold.specs.Fold.{folded}
 use Rattle.fold.specs.Working.{taken_from, found, left, leaves, fold_step, fold_put}
-use Rattle.fold.specs.declared.writer.Left.{Left}
-use Rattle.fold.specs.declared.writer.Left.TheVariants.{Stays, Goes}
+use Rattle.std.specs.Prelude.{Option}
+use Rattle.std.specs.Prelude.{Some, None}
 use Rattle.fold.proofs.Remaining.{cleared, takes, after, remains, remains_alike, same_function, cleared_own, cleared_other}
 use Rattle.fold.proofs.Positions.{total_at, folded_remains}
 
@@ -67,15 +67,15 @@ written_folded f bytes good held totals p q =
     ∙ remains_alike (total_at w gs) w gs (own_numbers most_wires) (own_numbers w) (file_sound f bytes good) (own_alike most_wires w good.few) ∙ sym (folded_remains w gs))
 
 -- what is left of one gate: its bytes, or none
-module _ (l : Left) (at : ℕ) (out : List ℕ) where
-  pub goes : l ≡ Goes → at ≤ length out → Wrote (bytes_of (leaves l)) at out at out
+module _ (l : Option Gate) (at : ℕ) (out : List ℕ) where
+  pub goes : l ≡ None → at ≤ length out → Wrote (bytes_of (leaves l)) at out at out
   unfolding bytes_of
   goes e h = rw e (wrote_nothing at out h)
 
-  pub four_left : (g : Gate) → l ≡ Stays g → length (bytes_of (leaves l)) ≡ 4
+  pub four_left : (g : Gate) → l ≡ Some g → length (bytes_of (leaves l)) ≡ 4
   four_left g e = length-bytes (leaves l) ∙ rw e
 
-  pub stays : (g : Gate) → l ≡ Stays g → (after : List ℕ) → after ≡ put_at (gate_bytes g) at out → Wrote (bytes_of (leaves l)) at out (at + 4) after
+  pub stays : (g : Gate) → l ≡ Some g → (after : List ℕ) → after ≡ put_at (gate_bytes g) at out → Wrote (bytes_of (leaves l)) at out (at + 4) after
   stays g e after p =
       let b : gate_bytes g ≡ bytes_of (leaves l) = rw e (sym (bytes_one g)) in
       record { ends = ap (at +◌) (sym (four_left g e)); written = p ∙ ap (λ (b : List ℕ). put_at b at out) b }

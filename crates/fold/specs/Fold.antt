@@ -1,14 +1,15 @@
 -- 01, "Running, counting, folding": the folded gate list, gate by gate and by position, and what the operation answers.
 use Rattle.std.specs.Prelude.{ℕ, zero, suc, List, [], ◌∷◌, ◌++◌, length}
 use Rattle.refusal.specs.Checks.{Check, outcome, room_check}
-use Rattle.refusal.specs.Contract.{Said, values, said_of, Meets}
+use Rattle.refusal.specs.Contract.{Said, answer_says, Meets}
 use Rattle.circuit.specs.declared.Gate.{Gate}
 use Rattle.circuit.specs.declared.Gate.TheVariants.{Cnot, Phase, Inverter}
 use Rattle.circuit.specs.File.{version_of, wires_of, gates_of, file_checks, file_of}
 use Rattle.running.specs.Run.{score}
 use Rattle.running.specs.Groups.{group_total, held_before, earlier}
+use Rattle.std.specs.Prelude.{Result}
+use Rattle.refusal.specs.declared.Refusal.{Refusal}
 use Rattle.fold.specs.declared.Folded.{Folded}
-use Rattle.fold.specs.declared.Folded.TheVariants.{File, Refused}
 
 -- "if the sum is 0 the first goes too"
 abbrev pub kept : ℕ → ℕ → List Gate
@@ -44,11 +45,10 @@ abbrev pub fold_checks : List ℕ → ℕ → List Check
 fold_checks f room = file_checks 0 f ++ room_check room (length (folded_file f))
 
 -- "It answers the new file's length with the scores before and after."
-abbrev pub folded_says : Folded → Said
-folded_says (File l before after) = values (l ∷ before ∷ after ∷ [])
-folded_says (Refused r) = said_of r
+abbrev pub folded_says : Result Folded Refusal → Said
+folded_says = answer_says (λ (a : Folded). a.length ∷ a.before ∷ a.after ∷ [])
 
 -- the contract of fold
-abbrev pub Folds : List ℕ → List ℕ → Folded → List ℕ → Type 0
+abbrev pub Folds : List ℕ → List ℕ → Result Folded Refusal → List ℕ → Type 0
 Folds f out answer after =
     Meets folded_says (outcome (fold_checks f (length out))) (length (folded_file f) ∷ score (gates_of f) ∷ score (folded (wires_of f) (gates_of f)) ∷ []) (folded_file f) out answer after

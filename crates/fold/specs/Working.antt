@@ -7,8 +7,8 @@ use Rattle.circuit.specs.declared.Gate.TheVariants.{Cnot, Phase, Inverter}
 use Rattle.circuit.specs.Gates.{bytes_of}
 use Rattle.running.specs.Run.{free_turn, scores}
 use Rattle.running.specs.Working.{Met, Unmet, At, numbers_after, met}
-use Rattle.fold.specs.declared.writer.Left.{Left}
-use Rattle.fold.specs.declared.writer.Left.TheVariants.{Stays, Goes}
+use Rattle.std.specs.Prelude.{Option}
+use Rattle.std.specs.Prelude.{Some, None}
 use Rattle.fold.specs.Fold.{kept}
 
 -- 1 for a total with which a gate stays: "if the sum is 0 the first goes too"
@@ -39,9 +39,9 @@ left t (Phase i a) = kept i t
 left t (Inverter i) = Inverter i ∷ []
 
 -- what stays of a gate: itself, or nothing where it "goes"
-abbrev pub leaves : Left → List Gate
-leaves (Stays g) = g ∷ []
-leaves Goes = []
+abbrev pub leaves : Option Gate → List Gate
+leaves (Some g) = g ∷ []
+leaves None = []
 
 -- the pass: what the wires hold and the totals that are still open, and what is written of a gate
 abbrev pub fold_step : Gate → List ℕ × List ℕ → List ℕ × List ℕ

@@ -1,12 +1,11 @@
 // The totals of the groups, one for each mask and flip: how many stay, and what they score.
 ghost use Rattle.std.specs.Prelude.{◌≡◌, ◌≤◌, length};
-ghost use Rattle.refusal.specs.Checks.{outcome, passed};
-ghost use Rattle.circuit.specs.File.{count_of, gates_of, file_checks};
+ghost use Rattle.circuit.specs.File.{gates_of};
 ghost use Rattle.circuit.specs.Working.{walked};
 ghost use Rattle.running.specs.Working.{most_groups, totals_of, At, numbers_after, met, add_met, sum_step};
 ghost use Rattle.fold.specs.Working.{staying, kept_in, score_in};
 
-use circuit::Gate;
+use circuit::{Circuit, Gate};
 
 // As many groups as ten wires can have: 2^10 masks, each with a flip or without (02 §12).
 const GROUPS: usize = 2048;
@@ -36,27 +35,22 @@ fn add_gate(gate: Gate, held: &mut [u16], totals: &mut [u16])
     }
 }
 
-// All gates of a good file.
-fn add_gates(file: &[u8], gates: usize, held: &mut [u16], totals: &mut [u16])
-    requires { (outcome (file_checks 0 file.now) ≡ passed) × (gates ≡ count_of file.now) }
-    ensures { (held.new, totals.new) ≡ walked sum_step (gates_of file.now) (held.old, totals.old) }
+// All gates of a circuit.
+fn add_gates(circuit: &Circuit, held: &mut [u16], totals: &mut [u16])
+    ensures { (held.new, totals.new) ≡ walked sum_step (gates_of circuit.now.file.now) (held.old, totals.old) }
 {
-    let mut i: usize = 0;
-    while i < gates {
-        let gate = circuit::good_gate(file, i);
+    for gate in circuit.gates() {
         add_gate(gate, held, totals);
-        i += 1;
     }
 }
 
-// The wrapped sum of each group of a good file.
-pub(crate) fn totals_of(file: &[u8], gates: usize) -> [u16; GROUPS]
-    requires { (outcome (file_checks 0 file.now) ≡ passed) × (gates ≡ count_of file.now) }
-    ensures { result ≡ totals_of file.now }
+// The wrapped sum of each group of a circuit.
+pub(crate) fn totals_of(circuit: &Circuit) -> [u16; GROUPS]
+    ensures { result ≡ totals_of circuit.now.file.now }
 {
     let mut totals = [0u16; GROUPS];
     let mut held = running::own_held();
-    add_gates(file, gates, &mut held, &mut totals);
+    add_gates(circuit, &mut held, &mut totals);
     totals
 }
 

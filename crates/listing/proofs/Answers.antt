@@ -10,7 +10,7 @@ use Rattle.refusal.specs.Checks.{Check, Outcome, passed, refused, outcome, room_
 use Rattle.refusal.specs.Contract.{values, Meets}
 use Rattle.refusal.proofs.Rooms.{earlier_refused, room_refused, room_enough}
 use Rattle.circuit.proofs.Writing.{put_front}
-use Rattle.listing.specs.declared.Listed.TheVariants.{Length, Refused}
+use Rattle.std.specs.Prelude.{Ok, Err}
 use Rattle.circuit.specs.Working.{Wrote}
 use Rattle.listing.specs.Listing.{listed_says}
 
@@ -18,14 +18,14 @@ module _ (cs : List Check) (text before : List ℕ) where
   abbrev all : Outcome
   all = outcome (cs ++ room_check (length before) (length text))
 
-  pub earlier_fails : (r : Refusal) → outcome cs ≡ refused r → Meets listed_says all (length text ∷ []) text before (Refused r) before
-  earlier_fails r e = earlier_refused listed_says cs (length text) (length text ∷ []) text before (Refused r) r refl e
+  pub earlier_fails : (r : Refusal) → outcome cs ≡ refused r → Meets listed_says all (length text ∷ []) text before (Err r) before
+  earlier_fails r e = earlier_refused listed_says cs (length text) (length text ∷ []) text before (Err r) r refl e
 
   module _ (e : outcome cs ≡ passed) where
-    pub room_fails : length before < length text → (r : Refusal) → r ≡ refusal ROOM → Meets listed_says all (length text ∷ []) text before (Refused r) before
-    room_fails h r q = room_refused listed_says cs (length text) (length text ∷ []) text before e h (Refused r) r refl q
+    pub room_fails : length before < length text → (r : Refusal) → r ≡ refusal ROOM → Meets listed_says all (length text ∷ []) text before (Err r) before
+    room_fails h r q = room_refused listed_says cs (length text) (length text ∷ []) text before e h (Err r) r refl q
 
-    pub answered : length text ≤ length before → (l : ℕ) (after : List ℕ) → Wrote text 0 before l after → Meets listed_says all (length text ∷ []) text before (Length l) after
+    pub answered : length text ≤ length before → (l : ℕ) (after : List ℕ) → Wrote text 0 before l after → Meets listed_says all (length text ∷ []) text before (Ok l) after
     answered h l after w =
-        room_enough listed_says cs (length text) (length text ∷ []) text before e h (Length l) after (ap (λ (n : ℕ). values (n ∷ [])) (w.ends ∙ zero-add (length text)))
+        room_enough listed_says cs (length text) (length text ∷ []) text before e h (Ok l) after (ap (λ (n : ℕ). values (n ∷ [])) (w.ends ∙ zero-add (length text)))
         (w.written ∙ put_front text before h)

@@ -15,41 +15,40 @@ use Rattle.circuit.specs.File.{wires_of, gates_of, file_checks}
 use Rattle.circuit.specs.Bytes.{Bytes}
 use Rattle.circuit.proofs.Callers.{good_file}
 use Rattle.circuit.proofs.Files.{file_sound, length-gates}
-use Rattle.listing.specs.declared.Listed.{Listed}
-use Rattle.listing.specs.declared.Listed.TheVariants.{Length, Refused}
+use Rattle.std.specs.Prelude.{Result, Ok, Err}
 use Rattle.listing.specs.Listing.{listing_of_file, loose_check, list_checks, listed_says, Lists, Writes}
 use Rattle.listing.proofs.Lengths.{listing_short}
 
-module _ (wrapped : Bool) (f before : List ℕ) (a : Listed) (after : List ℕ) (m : Lists wrapped f before a after) where
+module _ (wrapped : Bool) (f before : List ℕ) (a : Result ℕ Refusal) (after : List ℕ) (m : Lists wrapped f before a after) where
   abbrev text : List ℕ
   text = listing_of_file wrapped f
 
-  pub list_answers : (l : ℕ) → a ≡ Length l → (outcome (list_checks wrapped f (length before)) ≡ passed) × (l ≡ length (listing_of_file wrapped f)) × (after ≡ listing_of_file wrapped f ++ drop (length (listing_of_file wrapped f)) before)
+  pub list_answers : (l : ℕ) → a ≡ Ok l → (outcome (list_checks wrapped f (length before)) ≡ passed) × (l ≡ length (listing_of_file wrapped f)) × (after ≡ listing_of_file wrapped f ++ drop (length (listing_of_file wrapped f)) before)
   list_answers l e =
       let v = meets_values listed_says (outcome (list_checks wrapped f (length before))) (length text ∷ []) text before a after m (l ∷ []) (ap listed_says e) in
       (v.0, cc v.1, v.2)
 
-  pub list_refuses : (r : Refusal) → a ≡ Refused r → (outcome (list_checks wrapped f (length before)) ≡ refused r) × (after ≡ before)
+  pub list_refuses : (r : Refusal) → a ≡ Err r → (outcome (list_checks wrapped f (length before)) ≡ refused r) × (after ≡ before)
   list_refuses r e = meets_refusal listed_says (outcome (list_checks wrapped f (length before))) (length text ∷ []) text before a after m r (ap listed_says e)
 
 -- what a caller knows of a function that writes a text and has nothing but the room to refuse
-module _ (text before : List ℕ) (a : Listed) (after : List ℕ) (m : Writes text before a after) where
+module _ (text before : List ℕ) (a : Result ℕ Refusal) (after : List ℕ) (m : Writes text before a after) where
   abbrev room : List Check
   room = room_check (length before) (length text)
 
-  pub text_answers : (l : ℕ) → a ≡ Length l → (length text ≤ length before) × (l ≡ length text) × (after ≡ text ++ drop (length text) before)
+  pub text_answers : (l : ℕ) → a ≡ Ok l → (length text ≤ length before) × (l ≡ length text) × (after ≡ text ++ drop (length text) before)
   text_answers l e =
       let v = meets_values listed_says (outcome room) (length text ∷ []) text before a after m (l ∷ []) (ap listed_says e) in
       ((passed_fail room v.0).0, cc v.1, v.2)
 
-  pub text_refuses : (r : Refusal) → a ≡ Refused r → (outcome room ≡ refused r) × (after ≡ before)
+  pub text_refuses : (r : Refusal) → a ≡ Err r → (outcome room ≡ refused r) × (after ≡ before)
   text_refuses r e = meets_refusal listed_says (outcome room) (length text ∷ []) text before a after m r (ap listed_says e)
 
 pub listed_distinct : Distinct listed_says
-listed_distinct (Length l) (Length m) e = cc
-listed_distinct (Length l) (Refused r) e = cc
-listed_distinct (Refused r) (Length m) e = cc
-listed_distinct (Refused r) (Refused s) e = ap Refused (same_refusal r s e)
+listed_distinct (Ok l) (Ok m) e = cc
+listed_distinct (Ok l) (Err r) e = cc
+listed_distinct (Err r) (Ok m) e = cc
+listed_distinct (Err r) (Err s) e = ap Err (same_refusal r s e)
 
 -- how long the text of a file can be: 2,048 gates of 32 bytes, and 64 for the rest
 module _ (wrapped : Bool) (f : List ℕ) (bytes : Bytes f) where

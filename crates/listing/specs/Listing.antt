@@ -7,8 +7,8 @@ use Rattle.circuit.specs.declared.Gate.{Gate}
 use Rattle.circuit.specs.declared.Gate.TheVariants.{Cnot, Phase, Inverter}
 use Rattle.circuit.specs.File.{wires_of, gates_of, file_checks}
 use Rattle.running.specs.Ends.{lowest_loose}
-use Rattle.listing.specs.declared.Listed.{Listed}
-use Rattle.listing.specs.declared.Listed.TheVariants.{Length, Refused}
+use Rattle.std.specs.Prelude.{Result, Ok, Err}
+use Rattle.refusal.specs.declared.Refusal.{Refusal}
 use Rattle.listing.specs.Text.{numbered}
 use Rattle.listing.specs.Words.{words}
 use Rattle.listing.specs.Fractions.{Fraction, fraction_of}
@@ -63,12 +63,12 @@ abbrev pub list_checks : Bool → List ℕ → ℕ → List Check
 list_checks wrapped f room = file_checks 0 f ++ (loose_check wrapped (wires_of f) (gates_of f) ++ room_check room (length (listing_of_file wrapped f)))
 
 -- the answer is the text's length
-abbrev pub listed_says : Listed → Said
-listed_says (Length l) = values (l ∷ [])
-listed_says (Refused r) = said_of r
+abbrev pub listed_says : Result ℕ Refusal → Said
+listed_says (Ok l) = values (l ∷ [])
+listed_says (Err r) = said_of r
 
 -- the contract of list
-abbrev pub Lists : Bool → List ℕ → List ℕ → Listed → List ℕ → Type 0
+abbrev pub Lists : Bool → List ℕ → List ℕ → Result ℕ Refusal → List ℕ → Type 0
 Lists wrapped f out answer after =
     Meets listed_says (outcome (list_checks wrapped f (length out))) (length (listing_of_file wrapped f) ∷ []) (listing_of_file wrapped f) out answer after
 
@@ -77,5 +77,5 @@ unfoldable pub refused_line : ℕ → List ℕ
 refused_line number = numbered words.refused number ++ words.newline
 
 -- the contract of a function that writes a text and has nothing else to refuse: row 13 where out is shorter
-abbrev pub Writes : List ℕ → List ℕ → Listed → List ℕ → Type 0
+abbrev pub Writes : List ℕ → List ℕ → Result ℕ Refusal → List ℕ → Type 0
 Writes text out answer after = Meets listed_says (outcome (room_check (length out) (length text))) (length text ∷ []) text out answer after

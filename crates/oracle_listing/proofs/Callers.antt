@@ -21,21 +21,20 @@ use Rattle.build.proofs.Files.{built_long, built_gates, built_wires}
 use Rattle.build.proofs.Circuits.{sound_construction, admitted_construction}
 use Rattle.fold.specs.Fold.{folded}
 use Rattle.fold.proofs.Folding.{folded_sound, folded_admitted, folded_shorter}
-use Rattle.listing.specs.declared.Listed.{Listed}
-use Rattle.listing.specs.declared.Listed.TheVariants.{Length, Refused}
+use Rattle.std.specs.Prelude.{Result, Ok, Err}
 use Rattle.listing.specs.Listing.{listed_says, refused_line}
 use Rattle.listing.proofs.Callers.{listed_distinct}
 use Rattle.listing.proofs.Decimals.{one_digit}
 use Rattle.listing.proofs.Lengths.{listing_short, refused_long}
 use Rattle.oracle_listing.specs.Oracle.{variables_of, table_of, folded_listing, oracle_text, oracle_checks, ListsOracle, printed, printout, Prints}
 
-module _ (n : ℕ) (t before : List ℕ) (a : Listed) (after : List ℕ) (m : ListsOracle n t before a after) where
-  pub oracle_answers : (l : ℕ) → a ≡ Length l → (outcome (oracle_checks n t (length before)) ≡ passed) × (l ≡ length (oracle_text n t)) × (after ≡ oracle_text n t ++ drop (length (oracle_text n t)) before)
+module _ (n : ℕ) (t before : List ℕ) (a : Result ℕ Refusal) (after : List ℕ) (m : ListsOracle n t before a after) where
+  pub oracle_answers : (l : ℕ) → a ≡ Ok l → (outcome (oracle_checks n t (length before)) ≡ passed) × (l ≡ length (oracle_text n t)) × (after ≡ oracle_text n t ++ drop (length (oracle_text n t)) before)
   oracle_answers l e =
       let v = meets_values listed_says (outcome (oracle_checks n t (length before))) (length (oracle_text n t) ∷ []) (oracle_text n t) before a after m (l ∷ []) (ap listed_says e) in
       (v.0, cc v.1, v.2)
 
-  pub oracle_refuses : (r : Refusal) → a ≡ Refused r → (outcome (oracle_checks n t (length before)) ≡ refused r) × (after ≡ before)
+  pub oracle_refuses : (r : Refusal) → a ≡ Err r → (outcome (oracle_checks n t (length before)) ≡ refused r) × (after ≡ before)
   oracle_refuses r e = meets_refusal listed_says (outcome (oracle_checks n t (length before))) (length (oracle_text n t) ∷ []) (oracle_text n t) before a after m r (ap listed_says e)
 
 -- 65,536 bytes are room for every table's text
@@ -77,10 +76,10 @@ pub room_for_printout : (input : List ℕ) → length (printout input) ≤ 65536
 room_for_printout input = printed_short (variables_of input) (table_of input)
 
 -- so that a program which lends them is never refused
-pub prints_all : (input before : List ℕ) → 65536 ≤ length before → (a : Listed) (after : List ℕ) → Prints input before a after
-    → (a ≡ Length (length (printout input))) × (after ≡ printout input ++ drop (length (printout input)) before)
+pub prints_all : (input before : List ℕ) → 65536 ≤ length before → (a : Result ℕ Refusal) (after : List ℕ) → Prints input before a after
+    → (a ≡ Ok (length (printout input))) × (after ≡ printout input ++ drop (length (printout input)) before)
 prints_all input before h a after m =
     let text = printout input in
     let room = room_check (length before) (length text) in
     let v = when_passed listed_says (outcome room) (length text ∷ []) text before a after (reaches room passed (inr (omega (arith, room_for_printout input), refl))) m in
-    (listed_distinct a (Length (length text)) v.0, v.1)
+    (listed_distinct a (Ok (length text)) v.0, v.1)

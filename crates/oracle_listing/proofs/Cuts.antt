@@ -9,7 +9,8 @@ use Rattle.refusal.specs.Checks.{Outcome, settle, room_check}
 use Rattle.refusal.proofs.Cuts.{carried, meets_whole}
 use Rattle.table.specs.Table.{table_checks}
 use Rattle.table.proofs.Cuts.{table_cut, table_whole}
-use Rattle.listing.specs.declared.Listed.{Listed}
+use Rattle.std.specs.Prelude.{Result}
+use Rattle.refusal.specs.declared.Refusal.{Refusal}
 use Rattle.listing.specs.Listing.{listed_says, refused_line}
 use Rattle.oracle_listing.specs.Oracle.{variables_of, table_of, oracle_text, ListsOracle, printed, printout}
 
@@ -26,7 +27,7 @@ read : (P : ℕ → List ℕ → Type 0) (input : List ℕ) → P (variables_of 
 read P input p = subst (λ (t : List ℕ). P (variables_of input) t) (table_behind input) (subst (λ (n : ℕ). P n (table_of (take 34 input))) (variables_cut input) p)
 
 module _ (n : ℕ) (t : List ℕ) where
-  listed_whole : (out : List ℕ) (a : Listed) (left : List ℕ) → ListsOracle n (take 33 t) out a left → ListsOracle n t out a left
+  listed_whole : (out : List ℕ) (a : Result ℕ Refusal) (left : List ℕ) → ListsOracle n (take 33 t) out a left → ListsOracle n t out a left
   listed_whole out a left =
       meets_whole (table_checks n) (take 33 t) t (table_cut n t) (table_whole n t) [] (λ u. room_check (length out) (length (oracle_text n u))) listed_says (λ u. length (oracle_text n u) ∷ []) a (oracle_text n) out left
 
@@ -36,7 +37,7 @@ module _ (n : ℕ) (t : List ℕ) where
       (λ (o : Outcome) u. printed n (take 33 t) ≡ settle o (λ r. refused_line r.number) (oracle_text n u)) (λ r e. e) refl
 
 module _ (input : List ℕ) where
-  pub oracle_whole : (out : List ℕ) (a : Listed) (left : List ℕ) → ListsOracle (variables_of (take 34 input)) (table_of (take 34 input)) out a left → ListsOracle (variables_of input) (table_of input) out a left
+  pub oracle_whole : (out : List ℕ) (a : Result ℕ Refusal) (left : List ℕ) → ListsOracle (variables_of (take 34 input)) (table_of (take 34 input)) out a left → ListsOracle (variables_of input) (table_of input) out a left
   oracle_whole out a left m = listed_whole (variables_of input) (table_of input) out a left (read (λ n t. ListsOracle n t out a left) input m)
 
   pub printout_whole : printout (take 34 input) ≡ printout input

@@ -5,7 +5,8 @@ use Rattle.refusal.specs.Contract.{Meets}
 use Rattle.table.specs.Table.{table_checks}
 use Rattle.build.specs.Construction.{built_file}
 use Rattle.fold.specs.Fold.{folded_file}
-use Rattle.listing.specs.declared.Listed.{Listed}
+use Rattle.std.specs.Prelude.{Result}
+use Rattle.refusal.specs.declared.Refusal.{Refusal}
 use Rattle.listing.specs.Listing.{listing_of_file, listed_says, refused_line, Writes}
 
 -- "reads the byte n and then the table"; of an empty input n is 0, which row 1 refuses
@@ -28,7 +29,7 @@ abbrev pub oracle_checks : ℕ → List ℕ → ℕ → List Check
 oracle_checks n t room = table_checks n t ++ room_check room (length (oracle_text n t))
 
 -- the contract of of_table, and of oracle_listing for the n and the table of its input
-abbrev pub ListsOracle : ℕ → List ℕ → List ℕ → Listed → List ℕ → Type 0
+abbrev pub ListsOracle : ℕ → List ℕ → List ℕ → Result ℕ Refusal → List ℕ → Type 0
 ListsOracle n t out answer after =
     Meets listed_says (outcome (oracle_checks n t (length out))) (length (oracle_text n t) ∷ []) (oracle_text n t) out answer after
 
@@ -41,5 +42,5 @@ abbrev pub printout : List ℕ → List ℕ
 printout input = printed (variables_of input) (table_of input)
 
 -- the contract of printout: 13 where out is shorter, and nothing else
-abbrev pub Prints : List ℕ → List ℕ → Listed → List ℕ → Type 0
+abbrev pub Prints : List ℕ → List ℕ → Result ℕ Refusal → List ℕ → Type 0
 Prints input = Writes (printout input)

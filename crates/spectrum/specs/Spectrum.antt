@@ -4,10 +4,10 @@ use Rattle.numbers.specs.Bits.{dot}
 use Rattle.numbers.specs.Sums.{sumℤ, list}
 use Rattle.numbers.specs.Turn.{wrap, flip}
 use Rattle.refusal.specs.Checks.{Check, outcome, room_check}
-use Rattle.refusal.specs.Contract.{Said, values, said_of, Meets}
+use Rattle.refusal.specs.Contract.{Said, answer_says, Meets}
 use Rattle.table.specs.Table.{table_checks, value_at}
-use Rattle.spectrum.specs.declared.Transformed.{Transformed}
-use Rattle.spectrum.specs.declared.Transformed.TheVariants.{Entries, Refused}
+use Rattle.std.specs.Prelude.{Result}
+use Rattle.refusal.specs.declared.Refusal.{Refusal}
 
 -- "s_k is the sum over x of +1 or -1, minus when f(x) + k.x is odd"
 abbrev pub coefficient : ℕ → (ℕ → ℕ) → ℕ → ℤ
@@ -29,10 +29,9 @@ abbrev pub spectrum_checks : ℕ → List ℕ → ℕ → List Check
 spectrum_checks n t room = table_checks n t ++ room_check room (2 ^ n)
 
 -- the answer is the number of entries written
-abbrev pub transformed_says : Transformed → Said
-transformed_says (Entries k) = values (k ∷ [])
-transformed_says (Refused r) = said_of r
+abbrev pub transformed_says : Result ℕ Refusal → Said
+transformed_says = answer_says (λ (k : ℕ). k ∷ [])
 
 -- the contract of spectrum
-abbrev pub Transforms : ℕ → List ℕ → List ℤ → Transformed → List ℤ → Type 0
+abbrev pub Transforms : ℕ → List ℕ → List ℤ → Result ℕ Refusal → List ℤ → Type 0
 Transforms n t out answer after = Meets transformed_says (outcome (spectrum_checks n t (length out))) (2 ^ n ∷ []) (spectrum_of n t) out answer after

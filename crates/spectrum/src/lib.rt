@@ -8,29 +8,20 @@ ghost use Rattle.table.specs.Table.{value_at};
 ghost use Rattle.spectrum.specs.Spectrum.{Transforms};
 ghost use Rattle.spectrum.specs.Working.{entry, transformed, sum_and_difference, sums_and_differences, Tame, Paired};
 
-use refusal::Refusal;
-use table::Checked;
-
-#[derive(Drop)]
-pub enum Transformed {
-    Entries(usize),
-    Refused(Refusal),
-}
+use refusal::{Cause, Refusal};
 
 // Puts s_0 to s_(2^n - 1) at the front of out and answers 2^n.
-pub fn spectrum(n: u8, table: &[u8], out: &mut [i32]) -> Transformed
+pub fn spectrum(n: u8, table: &[u8], out: &mut [i32]) -> Result<usize, Refusal>
     ensures { Transforms n table.now out.old result out.new }
 {
-    if let Checked::Refused(r) = table::check(n, table) {
-        return Transformed::Refused(r);
-    }
+    table::check(n, table)?;
     let entries = numbers::power(n);
     if out.len() < entries {
-        return Transformed::Refused(refusal::by(refusal::ROOM));
+        return Err(Cause::Room.into());
     }
     write_signs(table, &mut out[..entries]);
     transform(&mut out[..entries]);
-    Transformed::Entries(entries)
+    Ok(entries)
 }
 
 // Entry x becomes +1, or -1 where f(x) is 1.

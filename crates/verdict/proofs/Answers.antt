@@ -8,8 +8,7 @@ use Rattle.refusal.proofs.Outcomes.{reaches, then_passed}
 use Rattle.refusal.proofs.Passed.{passed_fail}
 use Rattle.refusal.proofs.Rooms.{earlier_refused, room_refused, room_enough}
 use Rattle.verdict.specs.declared.Verdict.{Verdict}
-use Rattle.verdict.specs.declared.Compared.{Compared}
-use Rattle.verdict.specs.declared.Compared.TheVariants.{Found, Refused}
+use Rattle.std.specs.Prelude.{Result, Ok, Err}
 use Rattle.verdict.specs.Judging.{verdict_values, compared_says, work_checks}
 
 -- the checks on wires and work
@@ -17,24 +16,24 @@ module _ (w v : ℕ) (vs result before : List ℕ) where
   abbrev unlike_check : List Check
   unlike_check = check (other w v) (refusal UNLIKE) ∷ []
 
-  abbrev Works : Compared → List ℕ → Type 0
+  abbrev Works : Result Verdict Refusal → List ℕ → Type 0
   Works answer after = Meets compared_says (outcome (work_checks w v (length before))) vs result before answer after
 
-  pub wires_refused : (w ≡ v → ⊥) → (r : Refusal) → r ≡ refusal UNLIKE → Works (Refused r) before
-  wires_refused h r e = earlier_refused compared_says unlike_check (2 ^ w) vs result before (Refused r) r refl (reaches unlike_check (refused r) (inl (h, ap refused e)))
+  pub wires_refused : (w ≡ v → ⊥) → (r : Refusal) → r ≡ refusal UNLIKE → Works (Err r) before
+  wires_refused h r e = earlier_refused compared_says unlike_check (2 ^ w) vs result before (Err r) r refl (reaches unlike_check (refused r) (inl (h, ap refused e)))
 
   module _ (h : w ≡ v) where
     alike : outcome unlike_check ≡ passed
     alike = reaches unlike_check passed (inr (h, refl))
 
-    pub work_refused : length before < 2 ^ w → (r : Refusal) → r ≡ refusal ROOM → Works (Refused r) before
-    work_refused k r e = room_refused compared_says unlike_check (2 ^ w) vs result before alike k (Refused r) r refl e
+    pub work_refused : length before < 2 ^ w → (r : Refusal) → r ≡ refusal ROOM → Works (Err r) before
+    work_refused k r e = room_refused compared_says unlike_check (2 ^ w) vs result before alike k (Err r) r refl e
 
-    pub work_enough : 2 ^ w ≤ length before → (d : Verdict) → verdict_values d ≡ vs → (after : List ℕ) → after ≡ result ++ drop (length result) before → Works (Found d) after
-    work_enough k d e after q = room_enough compared_says unlike_check (2 ^ w) vs result before alike k (Found d) after (ap values e) q
+    pub work_enough : 2 ^ w ≤ length before → (d : Verdict) → verdict_values d ≡ vs → (after : List ℕ) → after ≡ result ++ drop (length result) before → Works (Ok d) after
+    work_enough k d e after q = room_enough compared_says unlike_check (2 ^ w) vs result before alike k (Ok d) after (ap values e) q
 
 -- both inputs pass, and then the checks on wires and work: the summaries' judgement, whose numbers count where the wires are alike
-pub both_passed : (xs ys : List Check) (w v : ℕ) (vs result before : List ℕ) → outcome xs ≡ passed → outcome ys ≡ passed → {vs' result' : List ℕ} → (w ≡ v → (vs' ≡ vs) × (result' ≡ result)) → (answer : Compared) (after : List ℕ)
+pub both_passed : (xs ys : List Check) (w v : ℕ) (vs result before : List ℕ) → outcome xs ≡ passed → outcome ys ≡ passed → {vs' result' : List ℕ} → (w ≡ v → (vs' ≡ vs) × (result' ≡ result)) → (answer : Result Verdict Refusal) (after : List ℕ)
     → Meets compared_says (outcome (work_checks w v (length before))) vs' result' before answer after → Meets compared_says (outcome (xs ++ (ys ++ work_checks w v (length before)))) vs result before answer after
 both_passed xs ys w v vs result before p q {vs'} {result'} same answer after m = rw (then_passed xs (ys ++ work_checks w v (length before)) p ∙ then_passed ys (work_checks w v (length before)) q) (by (outcome (work_checks w v (length before))) refl m)
   where

@@ -3,12 +3,12 @@ use Rattle.std.proofs.Common.{◌≡◌, ℕ, suc, ◌+◌, ◌^◌, ◌≤◌, 
 use Rattle.numbers.specs.Sums.{list}
 use Rattle.numbers.proofs.Lists.{length-list}
 use Rattle.refusal.specs.Checks.{passed, outcome}
-use Rattle.table.specs.declared.Checked.{Checked}
-use Rattle.table.specs.declared.Checked.TheVariants.{Good}
+use Rattle.std.specs.Prelude.{Result, Ok}
+use Rattle.refusal.specs.declared.Refusal.{Refusal}
+use Rattle.circuit.specs.declared.Header.{Header}
+use Rattle.verdict.specs.declared.Verdict.{Verdict}
 use Rattle.table.specs.Table.{table_checks, value_at}
 use Rattle.table.proofs.Callers.{good_variables}
-use Rattle.circuit.specs.declared.Reading.{Reading}
-use Rattle.circuit.specs.declared.Reading.TheVariants.{Circuit}
 use Rattle.circuit.specs.Bytes.{Bytes, put_at}
 use Rattle.circuit.specs.File.{wires_of, gates_of, file_checks}
 use Rattle.circuit.proofs.Callers.{good_file, few_states}
@@ -19,7 +19,6 @@ use Rattle.running.specs.Masks.{most_masks}
 use Rattle.coefficients.specs.Coefficients.{listed_start, most_starts, coefficient, ideal_coefficient}
 use Rattle.coefficients.specs.Summaries.{Summarises, SummarisesIdeal}
 use Rattle.coefficients.proofs.Callers.{summarise_answers, ideal_answers, put_entry}
-use Rattle.verdict.specs.declared.Compared.{Compared}
 use Rattle.verdict.specs.Verdicts.{circuit, ideal, verdict, differences}
 use Rattle.verdict.specs.Judging.{verdict_values, Compares, Judges}
 use Rattle.verdict.specs.Working.{summary, HoldsSummary, JudgesSummaries}
@@ -37,7 +36,7 @@ pub record FileSums (side : ℕ) (f row ends : List ℕ) (w : ℕ) : Type 0 wher
   pub holds : HoldsSummary w row ends
   pub sums : Bytes f → Sums (wires_of f) (circuit (gates_of f)) (coefficient (wires_of f) (gates_of f)) (summary row ends)
 
-pub file_sums : (side : ℕ) (f row₀ ends₀ : List ℕ) (answer : Reading) (row ends : List ℕ) → Summarises side f row₀ ends₀ answer row ends → length row₀ ≡ most_masks → length ends₀ ≡ most_starts
+pub file_sums : (side : ℕ) (f row₀ ends₀ : List ℕ) (answer : Result Header Refusal) (row ends : List ℕ) → Summarises side f row₀ ends₀ answer row ends → length row₀ ≡ most_masks → length ends₀ ≡ most_starts
     → (w g : ℕ) → answer ≡ Circuit w g → FileSums side f row ends w
 file_sums side f row₀ ends₀ answer row ends s lr le w g e =
     let v = summarise_answers side f row₀ ends₀ answer row ends s w g e in
@@ -67,8 +66,8 @@ pub record TableSums (n : ℕ) (t row ends : List ℕ) : Type 0 where
   pub holds : HoldsSummary (n + 1) row ends
   pub sums : Sums (n + 1) (ideal n (value_at t)) (ideal_coefficient n (value_at t)) (summary row ends)
 
-pub table_sums : (n : ℕ) (t row₀ ends₀ : List ℕ) (answer : Checked) (row ends : List ℕ) → SummarisesIdeal n t row₀ ends₀ answer row ends → length row₀ ≡ most_masks → length ends₀ ≡ most_starts
-    → answer ≡ Good → TableSums n t row ends
+pub table_sums : (n : ℕ) (t row₀ ends₀ : List ℕ) (answer : Result (Unit {0}) Refusal) (row ends : List ℕ) → SummarisesIdeal n t row₀ ends₀ answer row ends → length row₀ ≡ most_masks → length ends₀ ≡ most_starts
+    → answer ≡ Ok tt → TableSums n t row ends
 table_sums n t row₀ ends₀ answer row ends s lr le e =
     let v = ideal_answers n t row₀ ends₀ answer row ends s e in
     let few = (good_variables n t v.passes).1 in
@@ -85,7 +84,7 @@ table_sums n t row₀ ends₀ answer row ends s lr le e =
     }
 
 -- both sides summed up and judged
-module _ (f row ends work : List ℕ) (w : ℕ) (sf : FileSums 0 f row ends w) (bytes : Bytes f) (v : ℕ) (row₂ ends₂ : List ℕ) (answer : Compared) (after : List ℕ)
+module _ (f row ends work : List ℕ) (w : ℕ) (sf : FileSums 0 f row ends w) (bytes : Bytes f) (v : ℕ) (row₂ ends₂ : List ℕ) (answer : Result Verdict Refusal) (after : List ℕ)
     (j : JudgesSummaries w (summary row ends) v (summary row₂ ends₂) work answer after) where
   abbrev first : ℕ → ℕ
   first = coefficient (wires_of f) (gates_of f)

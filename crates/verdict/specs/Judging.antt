@@ -7,8 +7,8 @@ use Rattle.table.specs.Table.{table_checks, value_at}
 use Rattle.circuit.specs.File.{wires_of, gates_of, file_checks}
 use Rattle.verdict.specs.declared.Verdict.{Verdict}
 use Rattle.verdict.specs.declared.Verdict.TheVariants.{Same, Different}
-use Rattle.verdict.specs.declared.Compared.{Compared}
-use Rattle.verdict.specs.declared.Compared.TheVariants.{Found, Refused}
+use Rattle.std.specs.Prelude.{Result, Ok, Err}
+use Rattle.refusal.specs.declared.Refusal.{Refusal}
 use Rattle.coefficients.specs.Coefficients.{coefficient, ideal_coefficient}
 use Rattle.verdict.specs.Verdicts.{circuit, ideal, verdict, differences}
 
@@ -17,9 +17,9 @@ abbrev pub verdict_values : Verdict → List ℕ
 verdict_values Same = 0 ∷ []
 verdict_values (Different s e f p) = 1 ∷ s ∷ e ∷ f ∷ p ∷ []
 
-abbrev pub compared_says : Compared → Said
-compared_says (Found v) = values (verdict_values v)
-compared_says (Refused r) = said_of r
+abbrev pub compared_says : Result Verdict Refusal → Said
+compared_says (Ok v) = values (verdict_values v)
+compared_says (Err r) = said_of r
 
 -- "12 UNLIKE: wire counts differ", "13 ROOM: .. work slice [shorter] than 2^w"
 abbrev pub work_checks : ℕ → ℕ → ℕ → List Check
@@ -34,13 +34,13 @@ abbrev pub judge_checks : ℕ → List ℕ → List ℕ → ℕ → List Check
 judge_checks n t f room = table_checks n t ++ (file_checks 0 f ++ work_checks (wires_of f) (n + 1) room)
 
 -- the contract of compare: the verdict on the two circuits, and their coefficients' differences in the work slice
-abbrev pub Compares : List ℕ → List ℕ → List ℕ → Compared → List ℕ → Type 0
+abbrev pub Compares : List ℕ → List ℕ → List ℕ → Result Verdict Refusal → List ℕ → Type 0
 Compares f g work answer after =
     Meets compared_says (outcome (compare_checks f g (length work))) (verdict_values (verdict (wires_of f) (circuit (gates_of f)) (circuit (gates_of g))))
     (differences (wires_of f) (coefficient (wires_of f) (gates_of f)) (coefficient (wires_of f) (gates_of g))) work answer after
 
 -- the contract of judge: "Judge does it with the second side ideal"
-abbrev pub Judges : ℕ → List ℕ → List ℕ → List ℕ → Compared → List ℕ → Type 0
+abbrev pub Judges : ℕ → List ℕ → List ℕ → List ℕ → Result Verdict Refusal → List ℕ → Type 0
 Judges n t f work answer after =
     Meets compared_says (outcome (judge_checks n t f (length work))) (verdict_values (verdict (wires_of f) (circuit (gates_of f)) (ideal n (value_at t))))
     (differences (wires_of f) (coefficient (wires_of f) (gates_of f)) (ideal_coefficient n (value_at t))) work answer after

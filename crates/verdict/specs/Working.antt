@@ -12,7 +12,8 @@ use Rattle.coefficients.specs.Coefficients.{listed_start}
 use Rattle.coefficients.specs.Working.{entry}
 use Rattle.verdict.specs.declared.Verdict.{Verdict}
 use Rattle.verdict.specs.declared.Verdict.TheVariants.{Same, Different}
-use Rattle.verdict.specs.declared.Compared.{Compared}
+use Rattle.std.specs.Prelude.{Result}
+use Rattle.refusal.specs.declared.Refusal.{Refusal}
 use Rattle.verdict.specs.Verdicts.{differences}
 use Rattle.verdict.specs.Judging.{verdict_values, compared_says, work_checks}
 
@@ -48,6 +49,6 @@ unfoldable pub judged : ℕ → Summary → Summary → Verdict
 judged w a b = judged_at w a b (lowest_place w a b)
 
 -- the contract of judging two summaries, of w wires and of v
-abbrev pub JudgesSummaries : ℕ → Summary → ℕ → Summary → List ℕ → Compared → List ℕ → Type 0
+abbrev pub JudgesSummaries : ℕ → Summary → ℕ → Summary → List ℕ → Result Verdict Refusal → List ℕ → Type 0
 JudgesSummaries w a v b work answer after =
     Meets compared_says (outcome (work_checks w v (length work))) (verdict_values (judged w a b)) (differences w a.coefficients b.coefficients) work answer after

@@ -3,8 +3,8 @@ use Rattle.refusal.specs.Checks.{passed, outcome}
 use Rattle.numbers.proofs.Powers.{power_fits}
 use Rattle.table.specs.Table.{table_checks}
 use Rattle.table.proofs.Callers.{good_variables}
-use Rattle.spectrum.specs.declared.Transformed.{Transformed}
-use Rattle.spectrum.specs.declared.Transformed.TheVariants.{Entries}
+use Rattle.std.specs.Prelude.{Result, Ok}
+use Rattle.refusal.specs.declared.Refusal.{Refusal}
 use Rattle.spectrum.specs.Spectrum.{spectrum_of, Transforms}
 use Rattle.spectrum.proofs.Callers.{spectrum_room, spectrum_answers, spectrum_refuses}
 use Rattle.build.proofs.Answers.{zeros, table_fails, room_fails, answered, row_size, leaves_file}
@@ -17,7 +17,7 @@ record Told (n : ℕ) (t : List ℕ) (row : List ℤ) : Type 0 where
   small : n ≤ 8
   entries : row ≡ spectrum_of n t ++ drop (length (spectrum_of n t)) zeros
 
-told : (n : ℕ) (t : List ℕ) (row : List ℤ) (a : Transformed) → Transforms n t zeros a row → (k : ℕ) → a ≡ Entries k → Told n t row
+told : (n : ℕ) (t : List ℕ) (row : List ℤ) (a : Result ℕ Refusal) → Transforms n t zeros a row → (k : ℕ) → a ≡ Ok k → Told n t row
 told n t row a meets k e =
     let v = spectrum_answers n t zeros a row meets k e in
     let good : outcome (table_checks n t) ≡ passed = sym (spectrum_room n t 256 (omega arith)) ∙ v.0 in

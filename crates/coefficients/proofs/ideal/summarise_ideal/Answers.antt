@@ -3,8 +3,8 @@ use Rattle.std.proofs.Common.{◌≡◌, ℕ, ◌+◌, ◌-◌, ◌^◌, ◌%◌
 use borrow.Rule.Slice.PartMut.{mid_len}
 use Rattle.numbers.proofs.Powers.{small_power}
 use Rattle.refusal.specs.Checks.{outcome}
-use Rattle.table.specs.declared.Checked.{Checked}
-use Rattle.table.specs.declared.Checked.TheVariants.{Good}
+use Rattle.std.specs.Prelude.{Result, Ok}
+use Rattle.refusal.specs.declared.Refusal.{Refusal}
 use Rattle.table.specs.Table.{table_checks, value_at, checked_says, Checks}
 use Rattle.table.proofs.Callers.{check_answers, good_variables}
 use Rattle.circuit.specs.Bytes.{put_at}
@@ -13,7 +13,7 @@ use Rattle.coefficients.proofs.Turning.{ideal_row, some_starts}
 use Rattle.coefficients.proofs.Answers.{sums_passed}
 use Rattle.coefficients.proofs.ideal.summarise_ideal.Goals as goal
 
-few : (n : ℕ) (t : List ℕ) (a : Checked) → Checks n t a → a ≡ Good → n ≤ 8
+few : (n : ℕ) (t : List ℕ) (a : Result (Unit {0}) Refusal) → Checks n t a → a ≡ Ok tt → n ≤ 8
 few n t a s e = (good_variables n t (check_answers n t a s e)).1
 
 half_is : (n h : ℕ) → n ≤ 8 → h ≡ 2 ^ n % 2 ^ 64 → h ≡ 2 ^ n

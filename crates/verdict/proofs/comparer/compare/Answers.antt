@@ -6,7 +6,7 @@ use Rattle.coefficients.specs.Coefficients.{coefficient}
 use Rattle.coefficients.proofs.Callers.{summarise_refuses}
 use Rattle.verdict.specs.Verdicts.{circuit, verdict, differences}
 use Rattle.verdict.specs.Judging.{verdict_values, compared_says, work_checks}
-use Rattle.verdict.specs.declared.Compared.TheVariants.{Refused}
+use Rattle.std.specs.Prelude.{Err}
 use Rattle.verdict.proofs.Summing.{file_sums, compare_judges}
 use Rattle.verdict.proofs.comparer.compare.Goals as goal
 
@@ -16,7 +16,7 @@ returns-in-Refused c =
     let f = a.first.now in
     let g = a.second.now in
     let r = c.in-Refused.refusal in
-    first_refuses compared_says (file_checks 0 f) (file_checks 1 g ++ work_checks (wires_of f) (wires_of g) (length a.work.now)) (verdict_values (verdict (wires_of f) (circuit (gates_of f)) (circuit (gates_of g)))) (differences (wires_of f) (coefficient (wires_of f) (gates_of f)) (coefficient (wires_of f) (gates_of g))) a.work.now (Refused r) r refl (summarise_refuses 0 f _ _ c.summarise.result _ _ c.summarise.ensures r c.in-Refused.is).refuses
+    first_refuses compared_says (file_checks 0 f) (file_checks 1 g ++ work_checks (wires_of f) (wires_of g) (length a.work.now)) (verdict_values (verdict (wires_of f) (circuit (gates_of f)) (circuit (gates_of g)))) (differences (wires_of f) (coefficient (wires_of f) (gates_of f)) (coefficient (wires_of f) (gates_of g))) a.work.now (Err r) r refl (summarise_refuses 0 f _ _ c.summarise.result _ _ c.summarise.ensures r c.in-Refused.is).refuses
 
 pub judge_summaries-requires : goal.judge_summaries-requires
 judge_summaries-requires c =
@@ -31,7 +31,7 @@ returns-in-Refused-summarise c =
     let g = a.second.now in
     let r = c.in-Refused-summarise.refusal in
     let first = file_sums 0 f _ _ c.summarise.result _ _ c.summarise.ensures c.empty-first_row.ensures refl c.in-Circuit.wires c.in-Circuit.gates c.in-Circuit.is in
-    second_refuses compared_says (file_checks 0 f) (file_checks 1 g ++ work_checks (wires_of f) (wires_of g) (length a.work.now)) (verdict_values (verdict (wires_of f) (circuit (gates_of f)) (circuit (gates_of g)))) (differences (wires_of f) (coefficient (wires_of f) (gates_of f)) (coefficient (wires_of f) (gates_of g))) a.work.now first.good (Refused r) r refl (then_refused (file_checks 1 g) (work_checks (wires_of f) (wires_of g) (length a.work.now)) r (summarise_refuses 1 g _ _ c.summarise-2.result _ _ c.summarise-2.ensures r c.in-Refused-summarise.is).refuses)
+    second_refuses compared_says (file_checks 0 f) (file_checks 1 g ++ work_checks (wires_of f) (wires_of g) (length a.work.now)) (verdict_values (verdict (wires_of f) (circuit (gates_of f)) (circuit (gates_of g)))) (differences (wires_of f) (coefficient (wires_of f) (gates_of f)) (coefficient (wires_of f) (gates_of g))) a.work.now first.good (Err r) r refl (then_refused (file_checks 1 g) (work_checks (wires_of f) (wires_of g) (length a.work.now)) r (summarise_refuses 1 g _ _ c.summarise-2.result _ _ c.summarise-2.ensures r c.in-Refused-summarise.is).refuses)
 
 pub returns-in-Circuit-summarise : goal.returns-in-Circuit-summarise
 returns-in-Circuit-summarise c =

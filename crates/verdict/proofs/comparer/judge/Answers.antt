@@ -7,7 +7,7 @@ use Rattle.coefficients.specs.Coefficients.{coefficient, ideal_coefficient}
 use Rattle.coefficients.proofs.Callers.{summarise_refuses, ideal_refuses}
 use Rattle.verdict.specs.Verdicts.{circuit, ideal, verdict, differences}
 use Rattle.verdict.specs.Judging.{verdict_values, compared_says, work_checks}
-use Rattle.verdict.specs.declared.Compared.TheVariants.{Refused}
+use Rattle.std.specs.Prelude.{Err}
 use Rattle.verdict.proofs.Summing.{file_sums, table_sums, judge_judges}
 use Rattle.verdict.proofs.comparer.judge.Goals as goal
 
@@ -17,7 +17,7 @@ returns-in-Refused c =
     let f = a.file.now in
     let t = a.table.now in
     let r = c.in-Refused.refusal in
-    first_refuses compared_says (table_checks a.n t) (file_checks 0 f ++ work_checks (wires_of f) (a.n + 1) (length a.work.now)) (verdict_values (verdict (wires_of f) (circuit (gates_of f)) (ideal a.n (value_at t)))) (differences (wires_of f) (coefficient (wires_of f) (gates_of f)) (ideal_coefficient a.n (value_at t))) a.work.now (Refused r) r refl (ideal_refuses a.n t _ _ c.summarise_ideal.result _ _ c.summarise_ideal.ensures r c.in-Refused.is).refuses
+    first_refuses compared_says (table_checks a.n t) (file_checks 0 f ++ work_checks (wires_of f) (a.n + 1) (length a.work.now)) (verdict_values (verdict (wires_of f) (circuit (gates_of f)) (ideal a.n (value_at t)))) (differences (wires_of f) (coefficient (wires_of f) (gates_of f)) (ideal_coefficient a.n (value_at t))) a.work.now (Err r) r refl (ideal_refuses a.n t _ _ c.summarise_ideal.result _ _ c.summarise_ideal.ensures r c.in-Refused.is).refuses
 
 pub overflow_add-n : goal.overflow_add-n
 overflow_add-n c =
@@ -37,7 +37,7 @@ returns-in-Refused-summarise c =
     let t = a.table.now in
     let r = c.in-Refused-summarise.refusal in
     let table = table_sums a.n t _ _ c.summarise_ideal.result _ _ c.summarise_ideal.ensures c.empty-ideal_row.ensures refl c.in_default.is in
-    second_refuses compared_says (table_checks a.n t) (file_checks 0 f ++ work_checks (wires_of f) (a.n + 1) (length a.work.now)) (verdict_values (verdict (wires_of f) (circuit (gates_of f)) (ideal a.n (value_at t)))) (differences (wires_of f) (coefficient (wires_of f) (gates_of f)) (ideal_coefficient a.n (value_at t))) a.work.now table.good (Refused r) r refl (then_refused (file_checks 0 f) (work_checks (wires_of f) (a.n + 1) (length a.work.now)) r (summarise_refuses 0 f _ _ c.summarise.result _ _ c.summarise.ensures r c.in-Refused-summarise.is).refuses)
+    second_refuses compared_says (table_checks a.n t) (file_checks 0 f ++ work_checks (wires_of f) (a.n + 1) (length a.work.now)) (verdict_values (verdict (wires_of f) (circuit (gates_of f)) (ideal a.n (value_at t)))) (differences (wires_of f) (coefficient (wires_of f) (gates_of f)) (ideal_coefficient a.n (value_at t))) a.work.now table.good (Err r) r refl (then_refused (file_checks 0 f) (work_checks (wires_of f) (a.n + 1) (length a.work.now)) r (summarise_refuses 0 f _ _ c.summarise.result _ _ c.summarise.ensures r c.in-Refused-summarise.is).refuses)
 
 pub returns-in-Circuit : goal.returns-in-Circuit
 returns-in-Circuit c =
