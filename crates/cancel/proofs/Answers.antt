@@ -18,7 +18,7 @@ use Rattle.circuit.specs.File.{version_of, wires_of, gates_of, file_checks, head
 use Rattle.circuit.specs.Working.{said_at, header_of}
 use Rattle.circuit.proofs.Files.{length-file}
 use Rattle.circuit.proofs.Writing.{header_of_lem, file_put}
-use Rattle.std.specs.Prelude.{Result, Err}
+use Rattle.std.specs.Prelude.{Ok, Err}
 use Rattle.cancel.specs.declared.Cancelled.{Cancelled}
 use Rattle.cancel.specs.Cancel.{cancelled, steps, cancelled_file, most_allowed, allow_check, cancelled_says, Cancels}
 use Rattle.cancel.specs.Working.{most_gates, gates_at, Remains}
@@ -47,11 +47,11 @@ module _ (f : List ℕ) (most : ℕ) (before : List ℕ) where
       pub room_fails : length before < length (cancelled_file f most) → (r : Refusal) → r ≡ refusal ROOM → Cancels f most before (Err r) before
       room_fails k r p = room_refused cancelled_says early (length (cancelled_file f most)) (cancel_values f most) (cancelled_file f most) before early_passes k (Err r) r refl p
 
-      pub answered : length (cancelled_file f most) ≤ length before → (r : Result Cancelled Refusal) (l n : ℕ) → r ≡ File l n → l ≡ length (cancelled_file f most) → n ≡ steps most (gates_of f)
-          → (after : List ℕ) → after ≡ cancelled_file f most ++ drop (length (cancelled_file f most)) before → Cancels f most before r after
-      answered k r l n d p q after t =
-          room_enough cancelled_says early (length (cancelled_file f most)) (cancel_values f most) (cancelled_file f most) before early_passes k r after
-          (ap cancelled_says d ∙ (λ i. values (p i ∷ q i ∷ []))) t
+      pub answered : length (cancelled_file f most) ≤ length before → (a : Cancelled) → a.length ≡ length (cancelled_file f most) → a.pairs ≡ steps most (gates_of f)
+          → (after : List ℕ) → after ≡ cancelled_file f most ++ drop (length (cancelled_file f most)) before → Cancels f most before (Ok a) after
+      answered k a p q after t =
+          room_enough cancelled_says early (length (cancelled_file f most)) (cancel_values f most) (cancelled_file f most) before early_passes k (Ok a) after
+          (λ i. values (p i ∷ q i ∷ [])) t
 
 -- what is known once the pass is made
 pub record Room (f : List ℕ) (most kept : ℕ) : Type 0 where

@@ -4,9 +4,9 @@ use native.Mathlib.Numerals.{add-one}
 use native.Mathlib.Omega.{arith}
 use mathlib.Core.Path.{◌≡◌, refl, sym, ap, subst, ◌∙◌}
 use mathlib.Core.List.{List, [], ◌∷◌, ◌++◌}
-use lib.ListN.{length, get_or, drop, drop_of_length-le}
-use lib.Seq.{drop-cons}
-use Rattle.numbers.proofs.Lists.{length-list, get_or-list}
+use lib.ListN.{length, get_or, take, drop, drop_of_length-le}
+use lib.Seq.{drop-cons, length-take-le, get_or-take}
+use Rattle.numbers.proofs.Lists.{length-list, get_or-list, list_ext}
 use Rattle.circuit.specs.declared.Gate.{Gate}
 use Rattle.circuit.specs.declared.Gate.TheVariants.{Inverter}
 use Rattle.circuit.specs.Bytes.{put_at}
@@ -19,6 +19,11 @@ use Rattle.cancel.specs.Working.{gates_at}
 bytes_none : bytes_of [] ≡ []
 unfolding bytes_of
 bytes_none = refl
+
+-- the gates at the front of a row, as a row of their own
+pub gates_front : (f row : List ℕ) (n : ℕ) → n ≤ length row → gates_at f (take n row) (length (take n row)) ≡ gates_at f row n
+gates_front f row n h =
+    ap (gates_at f (take n row)) (length-take-le n row h) ∙ list_ext n (λ j. said_at f (get_or (take n row) j 0)) (λ j. said_at f (get_or row j 0)) (λ j k. ap (said_at f) (get_or-take n row j 0 k))
 
 module _ (f row : List ℕ) (kept : ℕ) (before : List ℕ) where
   abbrev all : List Gate

@@ -2,11 +2,11 @@
 use Rattle.std.specs.Prelude.{ℕ, zero, suc, Bool, false, ◌||◌, ◌&&◌, cond, List, [], ◌∷◌, ◌++◌, eqb, length, drop}
 use Rattle.refusal.specs.Names.{refusal, ALLOW}
 use Rattle.refusal.specs.Checks.{Check, check, less, outcome, room_check}
-use Rattle.refusal.specs.Contract.{Said, values, said_of, Meets}
+use Rattle.refusal.specs.Contract.{Said, answer_says, Meets}
 use Rattle.circuit.specs.declared.Gate.{Gate}
 use Rattle.circuit.specs.declared.Gate.TheVariants.{Cnot, Phase, Inverter}
 use Rattle.circuit.specs.File.{version_of, wires_of, gates_of, file_checks, file_of}
-use Rattle.std.specs.Prelude.{Result, Err}
+use Rattle.std.specs.Prelude.{Result}
 use Rattle.refusal.specs.declared.Refusal.{Refusal}
 use Rattle.cancel.specs.declared.Cancelled.{Cancelled}
 
@@ -61,8 +61,7 @@ cancel_checks f most room = file_checks 0 f ++ (allow_check most ++ room_check r
 
 -- the new file's length, and "the answer says how many pairs went"
 abbrev pub cancelled_says : Result Cancelled Refusal → Said
-cancelled_says (File l pairs) = values (l ∷ pairs ∷ [])
-cancelled_says (Err r) = said_of r
+cancelled_says = answer_says (λ (a : Cancelled). a.length ∷ a.pairs ∷ [])
 
 -- the contract of cancel
 abbrev pub Cancels : List ℕ → ℕ → List ℕ → Result Cancelled Refusal → List ℕ → Type 0

@@ -1,13 +1,12 @@
 // One pass over the gates. What is kept is a stack: a row of positions, the last gate's on top.
 ghost use Rattle.std.specs.Prelude.{◌≡◌, ◌≤◌, ◌&&◌, ltb, length};
-ghost use Rattle.refusal.specs.Checks.{outcome, passed};
 ghost use Rattle.circuit.specs.declared.Gate.TheVariants.{Cnot};
-ghost use Rattle.circuit.specs.File.{count_of, file_checks};
+ghost use Rattle.circuit.specs.File.{count_of};
 ghost use Rattle.circuit.specs.Working.{said_at};
 ghost use Rattle.cancel.specs.Cancel.{twins};
 ghost use Rattle.cancel.specs.Working.{stack, meets, Remains};
 
-use circuit::Gate;
+use circuit::{Circuit, Gate};
 
 // How many gates are kept, and how many pairs have gone.
 #[derive(Drop)]
@@ -25,8 +24,7 @@ fn is_cnot(gate: Gate, control: u8, target: u8) -> bool
             control: c,
             target: t,
         } => (control == c) & (target == t),
-        Gate::Phase { wire: _, angle: _ } => false,
-        Gate::Inverter { wire: _ } => false,
+        Gate::Phase { .. } | Gate::Inverter { .. } => false,
     }
 }
 
@@ -36,8 +34,7 @@ fn are_twins(one: Gate, other: Gate) -> bool
 {
     match one {
         Gate::Cnot { control, target } => is_cnot(other, control, target),
-        Gate::Phase { wire: _, angle: _ } => false,
-        Gate::Inverter { wire: _ } => false,
+        Gate::Phase { .. } | Gate::Inverter { .. } => false,
     }
 }
 
@@ -57,22 +54,20 @@ fn goes(file: &[u8], row: &[u16], kept: usize, i: usize, pairs: usize, most: usi
 }
 
 // Leaves the positions of the gates that are kept at the front of the row: a gate goes with its twin or is kept.
-pub(crate) fn pass(file: &[u8], gates: usize, most: usize, row: &mut [u16]) -> Kept
-    requires { (outcome (file_checks 0 file.now) ≡ passed) × (gates ≡ count_of file.now) × (gates ≤ length row.old) }
-    ensures { Remains file.now most row.new result.gates result.pairs }
+pub(crate) fn pass(circuit: &Circuit, most: usize, row: &mut [u16]) -> Kept
+    requires { count_of circuit.now.file.now ≤ length row.old }
+    ensures { Remains circuit.now.file.now most row.new result.gates result.pairs }
 {
     let mut kept: usize = 0;
     let mut pairs: usize = 0;
-    let mut i: usize = 0;
-    while i < gates {
-        if goes(file, row, kept, i, pairs, most) {
+    for i in 0..circuit.gate_count() {
+        if goes(circuit.file, row, kept, i, pairs, most) {
             kept -= 1;
             pairs += 1;
         } else {
             row[kept] = i as u16;
             kept += 1;
         }
-        i += 1;
     }
     Kept { gates: kept, pairs }
 }
