@@ -12,6 +12,7 @@ pub(crate) fn write_angles(n: u8, coefficients: &[i32], out: &mut [u16])
     ensures { out.new ≡ list (length out.old) (λ k. angle n (slice_index_or coefficients.now k (pos 0))) }
 {
     let scale = numbers::power(14 - n) as i32;
+    // By index, since after a zip a proof does not know what was written through iter_mut.
     for (k, angle) in out.iter_mut().enumerate() {
         *angle = wrapped(coefficients[k] * scale);
     }

@@ -53,7 +53,7 @@ pub(crate) fn block(i: u8, angles: &[u16], out: &mut [u8], at: usize) -> usize
     ensures { Wrote (bytes_of (gatesOfBlock i (λ v. slice_index angles.now v))) at out.old result out.new }
 {
     let mut next = at;
-    let mut word: usize = 0;
+    let mut word = 0;
     for k in 0..numbers::power(i) {
         let bit = turned(i, k);
         next = put_pair(i, angles[word], bit, out, next);

@@ -50,17 +50,17 @@ fn sign(value: u8) -> i32
 }
 
 // H_n by halves: each half is transformed, then the two are added and subtracted.
-fn transform(v: &mut [i32])
-    requires { Tame v.old }
-    ensures { (n : ℕ) → length v.old ≡ 2 ^ n → v.new ≡ transformed n v.old }
+fn transform(row: &mut [i32])
+    requires { Tame row.old }
+    ensures { (n : ℕ) → length row.old ≡ 2 ^ n → row.new ≡ transformed n row.old }
 {
-    if v.len() == 4 {
-        four(v);
+    if row.len() == 4 {
+        four(row);
         return;
     }
-    let half = v.len() / 2;
+    let half = row.len() / 2;
     if 0 < half {
-        let (front, back) = v.split_at_mut(half);
+        let (front, back) = row.split_at_mut(half);
         transform(front);
         transform(back);
         add_and_subtract(front, back);
@@ -68,24 +68,24 @@ fn transform(v: &mut [i32])
 }
 
 // H_2, straight: the base of the recursion.
-fn four(v: &mut [i32])
-    requires four_entries { length v.old ≡ 4 }
-    requires tame { Tame v.old }
-    ensures { (n : ℕ) → length v.old ≡ 2 ^ n → v.new ≡ transformed n v.old }
+fn four(row: &mut [i32])
+    requires four_entries { length row.old ≡ 4 }
+    requires tame { Tame row.old }
+    ensures { (n : ℕ) → length row.old ≡ 2 ^ n → row.new ≡ transformed n row.old }
 {
-    let (front, back) = v.split_at_mut(2);
+    let (front, back) = row.split_at_mut(2);
     two(front);
     two(back);
     add_and_subtract(front, back);
 }
 
 // H_1: the sum of two entries and their difference.
-fn two(v: &mut [i32])
-    requires two_entries { length v.old ≡ 2 }
-    requires paired { Paired 1 v.old }
-    ensures { v.new ≡ sum_and_difference 0 1 v.old }
+fn two(row: &mut [i32])
+    requires two_entries { length row.old ≡ 2 }
+    requires paired { Paired 1 row.old }
+    ensures { row.new ≡ sum_and_difference 0 1 row.old }
 {
-    let (first, second) = v.split_at_mut(1);
+    let (first, second) = row.split_at_mut(1);
     add_and_subtract(first, second);
 }
 
@@ -95,18 +95,19 @@ fn add_and_subtract(front: &mut [i32], back: &mut [i32])
     requires paired { Paired (length front.old) (front.old ++ back.old) }
     ensures { front.new ++ back.new ≡ sums_and_differences (length front.old) (front.old ++ back.old) }
 {
-    for (i, a) in front.iter_mut().enumerate() {
-        add_and_subtract_two(a, &mut back[i]);
+    // By index, since after a zip a proof does not know what was written through iter_mut.
+    for (i, first) in front.iter_mut().enumerate() {
+        add_and_subtract_two(first, &mut back[i]);
     }
 }
 
 // The same of two entries.
-fn add_and_subtract_two(a: &mut i32, b: &mut i32)
-    requires { nat_abs a.old + nat_abs b.old ≤ 2147483647 }
-    ensures sum { a.new ≡ a.old +ℤ b.old }
-    ensures difference { b.new ≡ a.old -ℤ b.old }
+fn add_and_subtract_two(first: &mut i32, second: &mut i32)
+    requires { nat_abs first.old + nat_abs second.old ≤ 2147483647 }
+    ensures sum { first.new ≡ first.old +ℤ second.old }
+    ensures difference { second.new ≡ first.old -ℤ second.old }
 {
-    let second = *b;
-    *b = *a - second;
-    *a += second;
+    let difference = *first - *second;
+    *first += *second;
+    *second = difference;
 }

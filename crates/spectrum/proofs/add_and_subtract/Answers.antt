@@ -12,8 +12,8 @@ loop-i-preserved c = let l = c.loop-i in
     let a = filled_at l.i (sum_of front back) front l.front (pos 0) l.invariant.front in
     let b = filled_at l.i (difference_of front back) back l.back (pos 0) l.invariant.back in
     record {
-      front = fill_again l.i (sum_of front back) front l.front (pos 0) p.new.a (omega arith) l.invariant.front (p.ensures.sum ∙ ap₂ ◌+ℤ◌ a b);
-      back = fill_again l.i (difference_of front back) back l.back (pos 0) p.new.b (omega (arith, c.requires.same_length)) l.invariant.back (p.ensures.difference ∙ ap₂ ◌-ℤ◌ a b);
+      front = fill_again l.i (sum_of front back) front l.front (pos 0) p.new.first (omega arith) l.invariant.front (p.ensures.sum ∙ ap₂ ◌+ℤ◌ a b);
+      back = fill_again l.i (difference_of front back) back l.back (pos 0) p.new.second (omega (arith, c.requires.same_length)) l.invariant.back (p.ensures.difference ∙ ap₂ ◌-ℤ◌ a b);
     }
 
 pub returns : goal.returns
