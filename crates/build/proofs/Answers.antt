@@ -1,5 +1,5 @@
 -- The builder's three ways out, and what its local rows come to.
-use Rattle.std.proofs.Common.{◌≡◌, ℕ, ◌+◌, ◌-◌, ◌^◌, ◌<◌, ◌≤◌, List, [], ◌∷◌, ◌++◌, length, get_or, drop, replicate, ℤ, pos, nat_abs, sym, refl, ap, ◌∙◌, ap₂, zero-add, arith, get_or-drop, get_or-append-add, pow_mono}
+use Rattle.std.proofs.Common.{◌≡◌, ℕ, ◌+◌, ◌-◌, ◌^◌, ◌<◌, ◌≤◌, List, [], ◌∷◌, ◌++◌, length, get_or, drop, replicate, ℤ, pos, nat_abs, sym, refl, ap, ◌∙◌, arith, get_or-drop, get_or-append-add, pow_mono}
 use native.Mathlib.Decide.{dec_lt}
 use lib.ListN.{get_or-replicate, length-replicate, get_or-append, get_or-eq_default}
 use Rattle.numbers.specs.Sums.{list}
@@ -71,17 +71,17 @@ module _ (n : ℕ) (t : List ℕ) (small : n ≤ 8) (row : List ℤ) (e : row �
     angle_at_lem k h =
         ap (λ m. get_or m k 0) ea ∙ get_or-list l (λ j. angle n (get_or row j (pos 0))) k 0 (omega (arith, pow_mono {i = n} {j = 8} small)) ∙ ap (angle n) (row_at k h)
 
-    opposite_at : (k : ℕ) → k < 2 ^ n → get_or opposites (0 + k) 0 ≡ minus (theta n (value_at t) k)
+    opposite_at : (k : ℕ) → k < 2 ^ n → get_or opposites k 0 ≡ minus (theta n (value_at t) k)
     opposite_at k h =
         let long = ap length ea ∙ length-list l (λ j. angle n (get_or row j (pos 0))) in
-        ap₂ (λ m (j : ℕ). get_or m j 0) eo (zero-add k) ∙ get_or-list (length angles) (λ j. minus (get_or angles j 0)) k 0 (omega (arith, long, pow_mono {i = n} {j = 8} small)) ∙ ap minus (angle_at_lem k h)
+        ap (λ m. get_or m k 0) eo ∙ get_or-list (length angles) (λ j. minus (get_or angles j 0)) k 0 (omega (arith, long, pow_mono {i = n} {j = 8} small)) ∙ ap minus (angle_at_lem k h)
 
-    file_is : file_of 1 (n + 1) (parts n (λ k. get_or angles k 0) (λ v. get_or opposites (0 + v) 0)) ≡ built_file n t
+    file_is : file_of 1 (n + 1) (parts n (λ k. get_or angles k 0) (λ v. get_or opposites v 0)) ≡ built_file n t
     unfolding construction
-    file_is = ap (file_of 1 (n + 1)) (parts_same n (λ k. get_or angles k 0) (λ v. get_or opposites (0 + v) 0) (theta n (value_at t)) (λ v. minus (theta n (value_at t) v)) angle_at_lem opposite_at)
+    file_is = ap (file_of 1 (n + 1)) (parts_same n (λ k. get_or angles k 0) (λ v. get_or opposites v 0) (theta n (value_at t)) (λ v. minus (theta n (value_at t) v)) angle_at_lem opposite_at)
 
     -- what the call leaves: the file, then what stood there
-    pub leaves_file : 0 < n → (before after : List ℕ) → 2 ^ (n + 4) ≤ length before → after ≡ put_at (file_of 1 (n + 1) (parts n (λ k. get_or angles k 0) (λ v. get_or opposites (0 + v) 0))) 0 before
+    pub leaves_file : 0 < n → (before after : List ℕ) → 2 ^ (n + 4) ≤ length before → after ≡ put_at (file_of 1 (n + 1) (parts n (λ k. get_or angles k 0) (λ v. get_or opposites v 0))) 0 before
         → after ≡ built_file n t ++ drop (length (built_file n t)) before
     leaves_file p before after h w =
         w ∙ ap (λ b. put_at b 0 before) file_is ∙ put_front (built_file n t) before (omega (arith, built_long n t p))

@@ -158,7 +158,7 @@ module _ (n : ℕ) (f : ℕ → ℕ) where
 
 -- ---- the angles count only where there are words
 
-block_same : (i : ℕ) (a b : ℕ → ℕ) → ((v : ℕ) → v < 2 ^ i → a v ≡ b v) → block i a ≡ block i b
+pub block_same : (i : ℕ) (a b : ℕ → ℕ) → ((v : ℕ) → v < 2 ^ i → a v ≡ b v) → block i a ≡ block i b
 block_same i a b h =
     sum_of-ext [] ◌++◌ (2 ^ i) (pair_at i a) (pair_at i b)
     (λ k l. ap (λ (x : ℕ). Phase i x ∷ cnot_after i k) (h (word i k) (word_below i k l)))

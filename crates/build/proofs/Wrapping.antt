@@ -1,70 +1,32 @@
--- A coefficient as an angle: what the signed test, sum and casts come to.
-use Rattle.std.proofs.Common.{◌≡◌, ℕ, suc, ◌+◌, ◌-◌, ◌*◌, ◌%◌, ◌^◌, ◌<◌, ◌≤◌, true, false, T, ℤ, pos, negsuc, ◌-ℤ◌, ◌*ℤ◌, nat_abs, sym, refl, ap, ◌∙◌, ap₂, mod-eq_of_lt, arith, w16, w32, Fits, SFits, to_z, of_z, ltb-true}
-use lib.Signed.{lt_z, non_neg}
-use lib.IntN.{+ℤ_idl}
+-- A coefficient as an angle: its product with the scale fits 32 bits, and is wrapped to its angle.
+use Rattle.std.proofs.Common.{◌≡◌, ℕ, suc, ◌-◌, ◌*◌, ◌%◌, ◌^◌, ◌≤◌, ℤ, pos, negsuc, ◌*ℤ◌, nat_abs, refl, ap, ◌∙◌, ap₂, arith, pow_mono, w32, SFits, to_z, of_z}
+use native.Mathlib.Nat.{mul-le-mul_right}
+use mir.Facts.{to_z_pos}
 use Rattle.numbers.specs.Turn.{wrap}
-use Rattle.numbers.proofs.Turns.{wrap_below, wrap_mul}
+use Rattle.numbers.proofs.Integers.{nat_abs-neg}
+use Rattle.numbers.proofs.Powers.{power_fits}
 use Rattle.spectrum.specs.Spectrum.{angle}
 use Rattle.spectrum.proofs.Words.{fits32, stays}
 
--- a negative number is taken from 0, any other stays
-from_zero : (z : ℤ) → lt_z z (pos 0) ≡ true → pos 0 -ℤ z ≡ pos (nat_abs z)
-from_zero (pos m) e = absurd (omega (arith, ltb-true m 0 e))
-from_zero (negsuc m) e = +ℤ_idl (pos (suc m))
+nat_abs-times : (z : ℤ) (c : ℕ) → nat_abs (z *ℤ pos c) ≡ nat_abs z * c
+nat_abs-times (pos m) c = refl
+nat_abs-times (negsuc m) c = nat_abs-neg (pos (suc m * c))
 
-as_it_is : (z : ℤ) → lt_z z (pos 0) ≡ false → z ≡ pos (nat_abs z)
-as_it_is (pos m) e = refl
-as_it_is (negsuc m) e = let z : ◌≡◌ {A = ℕ} 0 1 = cc in absurd (omega arith)
+module _ (n : ℕ) (z : ℤ) (scale : ℕ) (few : n ≤ 8) (small : nat_abs z ≤ 256) (e : scale ≡ 2 ^ (14 - n) % 2 ^ 64) where
+  scale_is : scale ≡ 2 ^ (14 - n)
+  scale_is = e ∙ power_fits (omega arith)
 
-module _ (z : ℤ) (h : nat_abs z ≤ 256) where
-  in_words : to_z w32 (of_z w32 z) ≡ z
-  in_words = stays z (omega arith)
+  scale_most : 2 ^ (14 - n) ≤ 16384
+  scale_most = pow_mono {i = 14 - n} {j = 14} (omega arith)
 
-  pub same_size : nat_abs (to_z w32 (of_z w32 z)) ≡ nat_abs z
-  same_size = ap nat_abs in_words
+  factors : to_z w32 (of_z w32 z) *ℤ to_z w32 scale ≡ z *ℤ pos (2 ^ (14 - n))
+  factors = ap₂ ◌*ℤ◌ (stays z (omega arith)) (to_z_pos w32 (omega (arith, scale_is, scale_most)) ∙ ap pos scale_is)
 
-  module _ (e : lt_z (to_z w32 (of_z w32 z)) (pos 0) ≡ true) where
-    up : pos 0 -ℤ to_z w32 (of_z w32 z) ≡ pos (nat_abs z)
-    up = ap (pos 0 -ℤ◌) in_words ∙ from_zero z (ap (λ y. lt_z y (pos 0)) (sym in_words) ∙ e)
+  product_small : nat_abs (z *ℤ pos (2 ^ (14 - n))) ≤ 2147483647
+  product_small = omega (arith, nat_abs-times z (2 ^ (14 - n)), mul-le-mul_right (2 ^ (14 - n)) small, scale_most)
 
-    small : nat_abs (pos 0 -ℤ to_z w32 (of_z w32 z)) ≤ 2147483647
-    small = omega (arith, ap nat_abs up)
+  pub product_fits : SFits w32 (to_z w32 (of_z w32 z) *ℤ to_z w32 scale)
+  product_fits = rw factors (fits32 (z *ℤ pos (2 ^ (14 - n))) product_small)
 
-    pub up_fits : SFits w32 (pos 0 -ℤ to_z w32 (of_z w32 z))
-    up_fits = fits32 (pos 0 -ℤ to_z w32 (of_z w32 z)) small
-
-    up_stays : to_z w32 (of_z w32 (pos 0 -ℤ to_z w32 (of_z w32 z))) ≡ pos (nat_abs z)
-    up_stays = stays (pos 0 -ℤ to_z w32 (of_z w32 z)) small ∙ up
-
-    pub up_casts : T (non_neg (to_z w32 (of_z w32 (pos 0 -ℤ to_z w32 (of_z w32 z))))) × Fits w16 (nat_abs (to_z w32 (of_z w32 (pos 0 -ℤ to_z w32 (of_z w32 z)))))
-    up_casts = rw up_stays (tt, record { fits = omega arith })
-
-    pub up_is : nat_abs (to_z w32 (of_z w32 (pos 0 -ℤ to_z w32 (of_z w32 z)))) ≡ nat_abs z
-    up_is = ap nat_abs up_stays
-
-    -- a negative coefficient's angle: what its size wraps to 0
-    pub negative_is : (size r : ℕ) → size ≡ nat_abs z → r < 65536 → (r + size) % 65536 ≡ 0 → r ≡ wrap z
-    negative_is size r p k q = by z h (ap (λ y. lt_z y (pos 0)) (sym in_words) ∙ e) p
-      where
-        by : (y : ℤ) → nat_abs y ≤ 256 → lt_z y (pos 0) ≡ true → size ≡ nat_abs y → r ≡ wrap y
-        by (pos m) l d s = absurd (omega (arith, ltb-true m 0 d))
-        by (negsuc m) l d s = omega (arith, mod-eq_of_lt {n = m} {m = 65536} (omega arith))
-
-  module _ (e : lt_z (to_z w32 (of_z w32 z)) (pos 0) ≡ false) where
-    down : z ≡ pos (nat_abs z)
-    down = as_it_is z (ap (λ y. lt_z y (pos 0)) (sym in_words) ∙ e)
-
-    pub down_casts : T (non_neg (to_z w32 (of_z w32 z))) × Fits w16 (nat_abs (to_z w32 (of_z w32 z)))
-    down_casts = rw (in_words ∙ down) (tt, record { fits = omega arith })
-
-    pub positive_is : (size : ℕ) → size ≡ nat_abs z → size ≡ wrap z
-    positive_is size p = p ∙ sym (ap wrap down ∙ mod-eq_of_lt {n = nat_abs z} {m = 65536} (omega arith))
-
--- a coefficient is read as it is
-pub read_small : (z : ℤ) → nat_abs z ≤ 256 → nat_abs (to_z w32 (of_z w32 z)) ≤ 256
-read_small z h = rw (in_words z h) h
-
--- the angle of a coefficient is its own, scaled
-pub scaled_is : (n : ℕ) (z : ℤ) (a scale r : ℕ) → nat_abs z ≤ 256 → a ≡ wrap (to_z w32 (of_z w32 z)) → scale ≡ 2 ^ (14 - n) → r ≡ a * scale % 65536 → r ≡ angle n z
-scaled_is n z a scale r h p q e =
-    e ∙ ap₂ (λ (x y : ℕ). x * y % 65536) (p ∙ ap wrap (in_words z h)) q ∙ sym (wrap_mul z (2 ^ (14 - n))).alike ∙ mod-eq_of_lt (wrap_below (z *ℤ pos (2 ^ (14 - n))))
+  pub angle_is : (r : ℕ) → r ≡ wrap (to_z w32 (of_z w32 (to_z w32 (of_z w32 z) *ℤ to_z w32 scale))) → r ≡ angle n z
+  angle_is r p = p ∙ ap (λ (y : ℤ). wrap (to_z w32 (of_z w32 y))) factors ∙ ap wrap (stays (z *ℤ pos (2 ^ (14 - n))) product_small)

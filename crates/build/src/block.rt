@@ -26,8 +26,8 @@ pub(crate) fn first_quarter(n: u8, out: &mut [u8], at: usize) -> usize
 pub(crate) fn variables(n: u8, angles: &[u16], out: &mut [u8], at: usize) -> usize
     requires n_nonzero { 0 < n }
     requires n_bound { n ≤ 8 }
-    requires n_in_bounds { 2 ^ n ≤ length angles.now }
-    requires k_in_bounds { at + length (bytes_of (gatesOfVariables n (λ k. slice_index angles.now k))) ≤ length out.old }
+    requires angles_enough { 2 ^ n ≤ length angles.now }
+    requires room { at + length (bytes_of (gatesOfVariables n (λ k. slice_index angles.now k))) ≤ length out.old }
     ensures { Wrote (bytes_of (gatesOfVariables n (λ k. slice_index angles.now k))) at out.old result out.new }
 {
     let mut next = put(
@@ -38,31 +38,26 @@ pub(crate) fn variables(n: u8, angles: &[u16], out: &mut [u8], at: usize) -> usi
         out,
         at,
     );
-    let mut i: u8 = 1;
-    while i < n {
-        next = block(i, angles, numbers::power(i), out, next);
-        i += 1;
+    for i in 1..n {
+        next = block(i, &angles[numbers::power(i)..], out, next);
     }
     next
 }
 
-// Wire i's block: for each Gray word a phase by the angle at base and the word, then a CNOT from the bit that turns.
-pub(crate) fn block(i: u8, angles: &[u16], base: usize, out: &mut [u8], at: usize) -> usize
+// Wire i's block: for each Gray word a phase by the word's angle, then a CNOT from the bit that turns.
+pub(crate) fn block(i: u8, angles: &[u16], out: &mut [u8], at: usize) -> usize
     requires i_nonzero { 0 < i }
     requires i_bound { i ≤ 8 }
-    requires i_in_bounds { base + 2 ^ i ≤ length angles.now }
-    requires v_in_bounds { at + length (bytes_of (gatesOfBlock i (λ v. slice_index angles.now (base + v)))) ≤ length out.old }
-    ensures { Wrote (bytes_of (gatesOfBlock i (λ v. slice_index angles.now (base + v)))) at out.old result out.new }
+    requires angles_enough { 2 ^ i ≤ length angles.now }
+    requires room { at + length (bytes_of (gatesOfBlock i (λ v. slice_index angles.now v))) ≤ length out.old }
+    ensures { Wrote (bytes_of (gatesOfBlock i (λ v. slice_index angles.now v))) at out.old result out.new }
 {
-    let words = numbers::power(i);
     let mut next = at;
-    let mut word: usize = 0;
-    let mut k: usize = 0;
-    while k < words {
+    let mut word = 0;
+    for k in 0..numbers::power(i) {
         let bit = turned(i, k);
-        next = put_pair(i, angles[base + word], bit, out, next);
+        next = put_pair(i, angles[word], bit, out, next);
         word ^= numbers::power(bit);
-        k += 1;
     }
     next
 }
@@ -91,6 +86,6 @@ fn turned(i: u8, k: usize) -> u8
     requires k_bound { k < 2 ^ i }
     ensures { result ≡ Gray·turned i k }
 {
-    let zeros = usize::trailing_zeros(k + 1) as u8;
+    let zeros = (k + 1).trailing_zeros() as u8;
     if zeros < i { zeros } else { i - 1 }
 }

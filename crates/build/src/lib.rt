@@ -43,14 +43,14 @@ pub fn build(n: u8, table: &[u8], out: &mut [u8]) -> Built
 fn write_file(n: u8, theta: &[u16], minus: &[u16], out: &mut [u8])
     requires n_nonzero { 0 < n }
     requires n_bound { n ≤ 8 }
-    requires n_in_bounds { 2 ^ n ≤ length theta.now }
-    requires n_in_bounds_2 { 2 ^ n ≤ length minus.now }
-    requires n_in_bounds_3 { 2 ^ (n + 4) ≤ length out.old }
-    ensures { out.new ≡ put_at (file_of 1 (n + 1) (parts n (λ k. slice_index theta.now k) (λ v. slice_index minus.now (0 + v)))) 0 out.old }
+    requires theta_enough { 2 ^ n ≤ length theta.now }
+    requires minus_enough { 2 ^ n ≤ length minus.now }
+    requires room { 2 ^ (n + 4) ≤ length out.old }
+    ensures { out.new ≡ put_at (file_of 1 (n + 1) (parts n (λ k. slice_index theta.now k) (λ v. slice_index minus.now v))) 0 out.old }
 {
     let gates = numbers::power(n + 2) - 2;
     circuit::put_header(1, n + 1, gates as u16, out);
     let at = block::first_quarter(n, out, 8);
     let at = block::variables(n, theta, out, at);
-    block::block(n, minus, 0, out, at);
+    block::block(n, minus, out, at);
 }

@@ -16,7 +16,8 @@ pub fn fill<R: Read>(reader: &mut R, room: &mut [u8]) -> io::Result<usize>
     ensures end { IfOk result (λ n. n < length room.new → IsAtEnd (R.remaining reader.new)) }
     ensures failed { IfErr result (λ _. length room.new ≡ length room.old) }
 {
-    let mut at: usize = 0;
+    let mut at = 0;
+    // A read may bring less than the room that is left, so no iterator steps here.
     while at < room.len() {
         let more = reader.read(&mut room[at..])?;
         if more == 0 {

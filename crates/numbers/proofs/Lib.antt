@@ -1,6 +1,5 @@
 pub mod Sums
 pub mod Lists
-pub mod Parts
 pub mod Integers
 pub mod Turns
 pub mod Angles

@@ -9,24 +9,21 @@ ghost use Rattle.numbers.specs.Turn.{difference};
 pub fn power(k: u8) -> usize
     ensures { result ≡ 2 ^ k % 2 ^ 64 }
 {
-    if k < 64 { 1usize << k } else { 0 }
+    1usize.checked_shl(u32::from(k)).unwrap_or(0)
 }
 
 // How far x is from 0.
 pub fn magnitude(x: i32) -> u32
     ensures { result ≡ unsigned_abs x }
 {
-    if x < 0 { (-1 - x) as u32 + 1 } else { x as u32 }
+    x.unsigned_abs()
 }
 
 // Each angle of the row becomes its opposite.
 pub fn negate(row: &mut [u16])
     ensures { row.new ≡ list (length row.old) (λ k. difference 0 (slice_index row.old k)) }
 {
-    let mut k: usize = 0;
-    while k < row.len() {
-        let angle = row[k];
-        row[k] = std::num::wrapping_sub_u16(0, angle);
-        k += 1;
+    for angle in row.iter_mut() {
+        *angle = angle.wrapping_neg();
     }
 }

@@ -3,7 +3,7 @@ pub mod Words
 pub mod Halves
 pub mod Adding
 pub mod Bounds
-pub mod Fours
+pub mod Twos
 pub mod Recursion
 pub mod Spectra
 pub mod Answers

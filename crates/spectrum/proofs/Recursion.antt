@@ -1,14 +1,12 @@
 -- What a call on a row of 2^n entries has after its calls on the two halves.
-use Prim.Native.Nat.{ℕ, zero, suc, ◌+◌, ◌-◌, ◌/◌, ◌^◌, ◌<◌, ◌≤◌}
+use Prim.Native.Nat.{ℕ, zero, suc, ◌/◌, ◌^◌, ◌<◌, ◌≤◌}
 use native.Mathlib.Omega.{arith}
 use mathlib.Core.Path.{◌≡◌, sym, ap, ap₂, subst, subst₂, ◌∙◌}
 use mathlib.Core.List.{List, ◌++◌}
-use lib.ListN.{length, take, drop, length-append, length-drop}
+use lib.ListN.{length, take, drop, length-drop}
 use lib.Seq.{length-take-le}
 use lib.Pow.{pow_pos}
 use lib.IntN.{ℤ}
-use borrow.Rule.Slice.PartMut.{put_mid}
-use Rattle.numbers.proofs.Parts.{second_part, both_parts, half_fits}
 use Rattle.spectrum.specs.Working.{transformed, sums_and_differences, Tame, Paired}
 use Rattle.spectrum.proofs.Halves.{halves, by_halves, length-transformed, transformed_one}
 use Rattle.spectrum.proofs.Bounds.{half_bits, tame_first, tame_second, halves_paired}
@@ -18,58 +16,62 @@ pub one_entry : (v : List ℤ) → length v / 2 ≤ 0 → (n : ℕ) → length v
 one_entry v h zero e = sym (transformed_one v e)
 one_entry v h (suc m) e = absurd (omega (arith, pow_pos m))
 
--- a transformed row is as long as it was
-pub transform_long : (v u : List ℤ) → Tame v → ((n : ℕ) → length v ≡ 2 ^ n → u ≡ transformed n v) → length u ≡ length v
-transform_long v u t h = ap length (h t.bits t.long) ∙ length-transformed t.bits v ∙ sym t.long
+module _ (v front back : List ℤ) (half : ℕ) (d : half ≡ length v / 2) (p : 0 < half) (f : front ≡ take half v) (g : back ≡ drop half v) where
+  front_long : length front ≡ half
+  front_long = ap length f ∙ length-take-le half v (omega arith)
 
-module _ (v : List ℤ) (half : ℕ) (d : half ≡ length v / 2) (p : 0 < half) where
-  -- the first call may be made
-  pub first_call : Tame v → Tame (take half v)
+  -- both halves are shorter than the row
+  pub first_falls : length front < length v
+  first_falls = omega (arith, front_long)
+
+  pub second_falls : length back < length v
+  second_falls = omega (arith, ap length g ∙ length-drop half v)
+
+  -- both may be transformed
+  pub first_call : Tame v → Tame front
   first_call t = by (half_bits t.bits (length v) half t.long d p)
     where
-      by : (m : ℕ) × (t.bits ≡ suc m) × (half ≡ 2 ^ m) → Tame (take half v)
-      by (m, e, h) = rw h (tame_first v m (t.long ∙ ap (λ (k : ℕ). 2 ^ k) e) t)
+      by : (m : ℕ) × (t.bits ≡ suc m) × (half ≡ 2 ^ m) → Tame front
+      by (m, e, h) = subst Tame (sym (f ∙ ap (λ (k : ℕ). take k v) h)) (tame_first v m (t.long ∙ ap (λ (k : ℕ). 2 ^ k) e) t)
 
-  module _ (a : List ℤ) (la : length a ≡ length (take half v)) where
-    -- and the second
-    pub second_call : Tame v → Tame (take (length (a ++ drop half v) - half) (drop half (a ++ drop half v)))
-    second_call t = by (half_bits t.bits (length v) half t.long d p)
+  pub second_call : Tame v → Tame back
+  second_call t = by (half_bits t.bits (length v) half t.long d p)
+    where
+      by : (m : ℕ) × (t.bits ≡ suc m) × (half ≡ 2 ^ m) → Tame back
+      by (m, e, h) = subst Tame (sym (g ∙ ap (λ (k : ℕ). drop k v) h)) (tame_second v m (t.long ∙ ap (λ (k : ℕ). 2 ^ k) e) t)
+
+  module _ (a b : List ℤ) (ea : (n : ℕ) → length front ≡ 2 ^ n → a ≡ transformed n front) (eb : (n : ℕ) → length back ≡ 2 ^ n → b ≡ transformed n back) where
+    module _ (m : ℕ) (e : length v ≡ 2 ^ suc m) (h : half ≡ 2 ^ m) where
+      first_part : a ≡ transformed m (take (2 ^ m) v)
+      first_part = ea m (front_long ∙ h) ∙ ap (transformed m) (f ∙ ap (λ (k : ℕ). take k v) h)
+
+      second_part : b ≡ transformed m (drop (2 ^ m) v)
+      second_part = eb m (ap length g ∙ length-drop half v ∙ omega arith) ∙ ap (transformed m) (g ∙ ap (λ (k : ℕ). drop k v) h)
+
+      parts_joined : a ++ b ≡ halves m v
+      unfolding halves
+      parts_joined = ap₂ ◌++◌ first_part second_part
+
+      part_long : length a ≡ 2 ^ m
+      part_long = ap length first_part ∙ length-transformed m (take (2 ^ m) v)
+
+      other_long : length b ≡ 2 ^ m
+      other_long = ap length second_part ∙ length-transformed m (drop (2 ^ m) v)
+
+    -- the two may be added and subtracted
+    pub add_call : Tame v → (length b ≡ length a) × Paired (length a) (a ++ b)
+    add_call t = by (half_bits t.bits (length v) half t.long d p)
       where
-        by : (m : ℕ) × (t.bits ≡ suc m) × (half ≡ 2 ^ m) → Tame (take (length (a ++ drop half v) - half) (drop half (a ++ drop half v)))
-        by (m, e, h) = subst Tame (ap (λ (k : ℕ). drop k v) (sym h) ∙ sym (second_part v a half (half_fits v half d p) la)) (tame_second v m (t.long ∙ ap (λ (k : ℕ). 2 ^ k) e) t)
+        by : (m : ℕ) × (t.bits ≡ suc m) × (half ≡ 2 ^ m) → (length b ≡ length a) × Paired (length a) (a ++ b)
+        by (m, e, h) =
+            let l = t.long ∙ ap (λ (k : ℕ). 2 ^ k) e in
+            (other_long m l h ∙ sym (part_long m l h), subst₂ Paired (sym (part_long m l h)) (sym (parts_joined m l h)) (halves_paired v m l t))
 
-    module _ (b : List ℤ) (ea : (n : ℕ) → length (take half v) ≡ 2 ^ n → a ≡ transformed n (take half v))
-        (eb : (n : ℕ) → length (take (length (a ++ drop half v) - half) (drop half (a ++ drop half v))) ≡ 2 ^ n
-        → b ≡ transformed n (take (length (a ++ drop half v) - half) (drop half (a ++ drop half v)))) where
-      -- the row after both
-      abbrev joined : List ℤ
-      joined = put_mid half (length (a ++ drop half v) - half) (a ++ drop half v) b
-
-      joined_halves : (m : ℕ) → length v ≡ 2 ^ suc m → half ≡ 2 ^ m → joined ≡ halves m v
-      unfolding halves
-      joined_halves m e h =
-          let rest = second_part v a half (half_fits v half d p) la in
-          both_parts v a half (half_fits v half d p) la b
-          ∙ ap₂ ◌++◌ (ea m (length-take-le half v (half_fits v half d p) ∙ h) ∙ ap (λ (k : ℕ). transformed m (take k v)) h)
-          (eb m (ap length rest ∙ length-drop half v ∙ omega arith) ∙ ap (transformed m) rest ∙ ap (λ (k : ℕ). transformed m (drop k v)) h)
-
-      length-halves : (m : ℕ) → length (halves m v) ≡ 2 ^ m + 2 ^ m
-      unfolding halves
-      length-halves m = length-append (transformed m (take (2 ^ m) v)) (transformed m (drop (2 ^ m) v)) ∙ ap₂ ◌+◌ (length-transformed m (take (2 ^ m) v)) (length-transformed m (drop (2 ^ m) v))
-
-      -- the two may be added and subtracted
-      pub add_call : Tame v → (half + half ≡ length joined) × Paired half joined
-      add_call t = by (half_bits t.bits (length v) half t.long d p)
-        where
-          by : (m : ℕ) × (t.bits ≡ suc m) × (half ≡ 2 ^ m) → (half + half ≡ length joined) × Paired half joined
-          by (m, e, h) =
-              let l = t.long ∙ ap (λ (k : ℕ). 2 ^ k) e in
-              let j = joined_halves m l h in
-              (ap (λ (k : ℕ). k + k) h ∙ sym (ap length j ∙ length-halves m), subst₂ Paired (sym h) (sym j) (halves_paired v m l t))
-
-      -- and what that gives is the transform
-      pub add_gives : (u : List ℤ) → u ≡ sums_and_differences half joined → (n : ℕ) → length v ≡ 2 ^ n → u ≡ transformed n v
-      add_gives u e n l = by (half_bits n (length v) half l d p)
-        where
-          by : (m : ℕ) × (n ≡ suc m) × (half ≡ 2 ^ m) → u ≡ transformed n v
-          by (m, q, h) = e ∙ ap₂ sums_and_differences h (joined_halves m (l ∙ ap (λ (k : ℕ). 2 ^ k) q) h) ∙ by_halves m v ∙ ap (λ (k : ℕ). transformed k v) (sym q)
+    -- and what that gives is the transform
+    pub add_gives : (u : List ℤ) → u ≡ sums_and_differences (length a) (a ++ b) → (n : ℕ) → length v ≡ 2 ^ n → u ≡ transformed n v
+    add_gives u e n l = by (half_bits n (length v) half l d p)
+      where
+        by : (m : ℕ) × (n ≡ suc m) × (half ≡ 2 ^ m) → u ≡ transformed n v
+        by (m, q, h) =
+            let k = l ∙ ap (λ (k : ℕ). 2 ^ k) q in
+            e ∙ ap₂ sums_and_differences (part_long m k h) (parts_joined m k h) ∙ by_halves m v ∙ ap (λ (k : ℕ). transformed k v) (sym q)

@@ -1,12 +1,12 @@
 // Document 01, "Spectrum": the Walsh-Hadamard spectrum of a truth table.
 #![tactic(auto)]
 
-ghost use Rattle.std.specs.Prelude.{◌≡◌, ℕ, ◌^◌, ◌+◌, ◌<◌, ◌≤◌, length, pos, nat_abs};
+ghost use Rattle.std.specs.Prelude.{◌≡◌, ℕ, ◌^◌, ◌+◌, ◌<◌, ◌≤◌, ◌++◌, ◌+ℤ◌, ◌-ℤ◌, length, pos, nat_abs};
 ghost use Rattle.numbers.specs.Sums.{list};
 ghost use Rattle.numbers.specs.Turn.{flip};
 ghost use Rattle.table.specs.Table.{value_at};
 ghost use Rattle.spectrum.specs.Spectrum.{Transforms};
-ghost use Rattle.spectrum.specs.Working.{entry, transformed, sum_and_difference, sums_and_differences, Tame, Paired};
+ghost use Rattle.spectrum.specs.Working.{transformed, sum_and_difference, sums_and_differences, Tame, Paired};
 
 use refusal::{Cause, Refusal};
 
@@ -28,11 +28,8 @@ pub fn spectrum(n: u8, table: &[u8], out: &mut [i32]) -> Result<usize, Refusal>
 fn write_signs(table: &[u8], out: &mut [i32])
     ensures { out.new ≡ list (length out.old) (λ x. flip (value_at table.now x) (pos 1)) }
 {
-    let entries = out.len();
-    let mut x: usize = 0;
-    while x < entries {
-        out[x] = sign(table::value(table, x));
-        x += 1;
+    for (x, entry) in out.iter_mut().enumerate() {
+        *entry = sign(table::value(table, x));
     }
 }
 
@@ -44,55 +41,64 @@ fn sign(value: u8) -> i32
 }
 
 // H_n by halves: each half is transformed, then the two are added and subtracted.
-fn transform(v: &mut [i32])
-    requires { Tame v.old }
-    ensures { (n : ℕ) → length v.old ≡ 2 ^ n → v.new ≡ transformed n v.old }
+fn transform(row: &mut [i32])
+    requires { Tame row.old }
+    ensures { (n : ℕ) → length row.old ≡ 2 ^ n → row.new ≡ transformed n row.old }
 {
-    if v.len() == 4 {
-        four(v);
+    if row.len() == 4 {
+        four(row);
         return;
     }
-    let half = v.len() / 2;
+    let half = row.len() / 2;
     if 0 < half {
-        transform(&mut v[..half]);
-        transform(&mut v[half..]);
-        add_and_subtract(v, half);
+        let (front, back) = row.split_at_mut(half);
+        transform(front);
+        transform(back);
+        add_and_subtract(front, back);
     }
 }
 
 // H_2, straight: the base of the recursion.
-fn four(v: &mut [i32])
-    requires v_len { length v.old ≡ 4 }
-    requires tame { Tame v.old }
-    ensures { (n : ℕ) → length v.old ≡ 2 ^ n → v.new ≡ transformed n v.old }
+fn four(row: &mut [i32])
+    requires four_entries { length row.old ≡ 4 }
+    requires tame { Tame row.old }
+    ensures { (n : ℕ) → length row.old ≡ 2 ^ n → row.new ≡ transformed n row.old }
 {
-    add_and_subtract_two(v, 0, 1);
-    add_and_subtract_two(v, 2, 3);
-    add_and_subtract(v, 2)
+    let (front, back) = row.split_at_mut(2);
+    two(front);
+    two(back);
+    add_and_subtract(front, back);
+}
+
+// H_1: the sum of two entries and their difference.
+fn two(row: &mut [i32])
+    requires two_entries { length row.old ≡ 2 }
+    requires paired { Paired 1 row.old }
+    ensures { row.new ≡ sum_and_difference 0 1 row.old }
+{
+    let (first, second) = row.split_at_mut(1);
+    add_and_subtract(first, second);
 }
 
 // The sums of the halves' entries into the first half, their differences into the second.
-fn add_and_subtract(v: &mut [i32], half: usize)
-    requires half_value { half + half ≡ length v.old }
-    requires paired { Paired half v.old }
-    ensures { v.new ≡ sums_and_differences half v.old }
+fn add_and_subtract(front: &mut [i32], back: &mut [i32])
+    requires same_length { length back.old ≡ length front.old }
+    requires paired { Paired (length front.old) (front.old ++ back.old) }
+    ensures { front.new ++ back.new ≡ sums_and_differences (length front.old) (front.old ++ back.old) }
 {
-    let mut i: usize = 0;
-    while i < half {
-        add_and_subtract_two(v, i, half + i);
-        i += 1;
+    // By index, since after a zip a proof does not know what was written through iter_mut.
+    for (i, first) in front.iter_mut().enumerate() {
+        add_and_subtract_two(first, &mut back[i]);
     }
 }
 
 // The same of two entries.
-fn add_and_subtract_two(v: &mut [i32], i: usize, j: usize)
-    requires i_in_bounds { i < length v.old }
-    requires j_in_bounds { j < length v.old }
-    requires j_bound { nat_abs (entry v.old i) + nat_abs (entry v.old j) ≤ 2147483647 }
-    ensures { v.new ≡ sum_and_difference i j v.old }
+fn add_and_subtract_two(first: &mut i32, second: &mut i32)
+    requires { nat_abs first.old + nat_abs second.old ≤ 2147483647 }
+    ensures sum { first.new ≡ first.old +ℤ second.old }
+    ensures difference { second.new ≡ first.old -ℤ second.old }
 {
-    let a = v[i];
-    let b = v[j];
-    v[i] = a + b;
-    v[j] = a - b;
+    let difference = *first - *second;
+    *first += *second;
+    *second = difference;
 }

@@ -1,4 +1,4 @@
-use Rattle.std.proofs.Common.{◌≡◌, ℕ, ◌+◌, ◌^◌, ◌<◌, ◌≤◌, List, ◌++◌, length, drop, ℤ, sym, ◌∙◌, arith, pow_mono}
+use Rattle.std.proofs.Common.{◌≡◌, ℕ, ◌+◌, ◌%◌, ◌^◌, ◌<◌, ◌≤◌, List, ◌++◌, length, drop, ℤ, sym, ◌∙◌, arith, pow_mono, rules}
 use Rattle.refusal.specs.Checks.{passed, outcome}
 use Rattle.numbers.proofs.Powers.{power_fits}
 use Rattle.table.specs.Table.{table_checks}
@@ -24,6 +24,13 @@ told n t row a meets k e =
     let variables = good_variables n t good in
     record { good = good; some = variables.0; small = variables.1; entries = v.2 }
 
+module _ {n : ℕ} {t : List ℕ} {row : List ℤ} (k : Told n t row) where
+  length_is : (p : ℕ) → p ≡ 2 ^ (n + 4) % 2 ^ 64 → p ≡ 2 ^ (n + 4)
+  length_is p e = e ∙ power_fits (omega (arith, k.small))
+
+  angles_enough : (l : ℕ) → 256 ≤ l → 2 ^ n ≤ l
+  angles_enough l h = omega (arith, pow_mono {i = n} {j = 8} k.small)
+
 pub returns-in-Refused : goal.returns-in-Refused
 returns-in-Refused c =
     let a = c.args in
@@ -40,57 +47,32 @@ pub returns-then-out-file : goal.returns-then-out-file
 returns-then-out-file c =
     let a = c.args in
     let t = told a.n a.table.now c.spectrum.new.out c.spectrum.result c.spectrum.ensures c.in_default.field-0 c.in_default.is in
-    let long : c.power-file.result ≡ 2 ^ (a.n + 4) = c.power-file.ensures ∙ power_fits (omega (arith, t.small)) in
-    room_fails a.n a.table.now a.out.now t.good (omega arith) c.by.result c.by.ensures
+    room_fails a.n a.table.now a.out.now t.good (omega (arith, length_is t c.power-file.result c.power-file.ensures)) c.by.result c.by.ensures
 
-pub write_angles-requires-clause-n_bound : goal.write_angles-requires-clause-n_bound
-write_angles-requires-clause-n_bound c =
-    let a = c.args in
-    (told a.n a.table.now c.spectrum.new.out c.spectrum.result c.spectrum.ensures c.in_default.field-0 c.in_default.is).small
-
-pub write_angles-requires-clause-by_index : goal.write_angles-requires-clause-by_index
-write_angles-requires-clause-by_index c =
+pub write_angles-requires : goal.write_angles-requires
+write_angles-requires c =
     let a = c.args in
     let t = told a.n a.table.now c.spectrum.new.out c.spectrum.result c.spectrum.ensures c.in_default.field-0 c.in_default.is in
-    row_size a.n a.table.now t.small c.spectrum.new.out t.entries
+    record { n_bound = t.small; same_length = search rules; small = row_size a.n a.table.now t.small c.spectrum.new.out t.entries }
 
-pub write_file-requires-clause-n_nonzero : goal.write_file-requires-clause-n_nonzero
-write_file-requires-clause-n_nonzero c =
-    let a = c.args in
-    (told a.n a.table.now c.spectrum.new.out c.spectrum.result c.spectrum.ensures c.in_default.field-0 c.in_default.is).some
-
-pub write_file-requires-clause-n_bound : goal.write_file-requires-clause-n_bound
-write_file-requires-clause-n_bound c =
-    let a = c.args in
-    (told a.n a.table.now c.spectrum.new.out c.spectrum.result c.spectrum.ensures c.in_default.field-0 c.in_default.is).small
-
-pub write_file-requires-clause-n_in_bounds : goal.write_file-requires-clause-n_in_bounds
-write_file-requires-clause-n_in_bounds c =
+pub write_file-requires : goal.write_file-requires
+write_file-requires c =
     let a = c.args in
     let t = told a.n a.table.now c.spectrum.new.out c.spectrum.result c.spectrum.ensures c.in_default.field-0 c.in_default.is in
-    let w : 2 ^ a.n ≤ 2 ^ 8 = pow_mono {i = a.n} {j = 8} t.small in
-    omega (arith, c.write_angles.auto.out)
-
-pub write_file-requires-clause-n_in_bounds_2 : goal.write_file-requires-clause-n_in_bounds_2
-write_file-requires-clause-n_in_bounds_2 c =
-    let a = c.args in
-    let t = told a.n a.table.now c.spectrum.new.out c.spectrum.result c.spectrum.ensures c.in_default.field-0 c.in_default.is in
-    let w : 2 ^ a.n ≤ 2 ^ 8 = pow_mono {i = a.n} {j = 8} t.small in
-    omega (arith, c.write_angles.auto.out, c.negate.auto.row)
-
-pub write_file-requires-clause-n_in_bounds_3 : goal.write_file-requires-clause-n_in_bounds_3
-write_file-requires-clause-n_in_bounds_3 c =
-    let a = c.args in
-    let t = told a.n a.table.now c.spectrum.new.out c.spectrum.result c.spectrum.ensures c.in_default.field-0 c.in_default.is in
-    let long : c.power-file.result ≡ 2 ^ (a.n + 4) = c.power-file.ensures ∙ power_fits (omega (arith, t.small)) in
-    omega (arith, c.if-out-file.false)
+    record {
+      n_nonzero = t.some;
+      n_bound = t.small;
+      theta_enough = angles_enough t _ (omega (arith, c.write_angles.auto.out));
+      minus_enough = angles_enough t _ (omega (arith, c.write_angles.auto.out, c.negate.auto.row));
+      room = omega (arith, length_is t c.power-file.result c.power-file.ensures, c.if-out-file.false);
+    }
 
 pub returns : goal.returns
 returns c =
     let a = c.args in
     let t = told a.n a.table.now c.spectrum.new.out c.spectrum.result c.spectrum.ensures c.in_default.field-0 c.in_default.is in
-    let long : c.power-file.result ≡ 2 ^ (a.n + 4) = c.power-file.ensures ∙ power_fits (omega (arith, t.small)) in
-    let roomy : 2 ^ (a.n + 4) ≤ length a.out.now = omega (arith, c.if-out-file.false) in
+    let long = length_is t c.power-file.result c.power-file.ensures in
+    let roomy : 2 ^ (a.n + 4) ≤ length a.out.now = omega (arith, long, c.if-out-file.false) in
     let after = c.write_file.new.out in
     answered a.n a.table.now a.out.now t.good roomy c.power-file.result long after
     (leaves_file a.n a.table.now t.small c.spectrum.new.out t.entries c.write_angles.new.out c.negate.new.row 256 (omega arith) c.write_angles.ensures c.negate.ensures t.some a.out.now after roomy c.write_file.ensures)

@@ -15,7 +15,7 @@ module _ (n : ℕ) (theta minus out : List ℕ) where
   second k = get_or theta k 0
 
   abbrev third : ℕ → ℕ
-  third v = get_or minus (0 + v) 0
+  third v = get_or minus v 0
 
   abbrev quarter : List ℕ
   quarter = bytes_of (first_quarter n)
@@ -52,21 +52,21 @@ first_quarter-at-requires c =
     let a = c.args in
     let r = c.requires in
     room (quarter a.n a.theta.now a.minus.now a.out.now) (wires a.n a.theta.now a.minus.now a.out.now ++ target a.n a.theta.now a.minus.now a.out.now)
-    (header_done a.n a.theta.now a.minus.now a.out.now r.n_nonzero r.n_bound r.n_in_bounds_3 c.power-gates.result c.power-gates.ensures _ c.put_header.ensures)
+    (header_done a.n a.theta.now a.minus.now a.out.now r.n_nonzero r.n_bound r.room c.power-gates.result c.power-gates.ensures _ c.put_header.ensures)
 
-pub variables-at-requires-clause-k_in_bounds : goal.variables-at-requires-clause-k_in_bounds
-variables-at-requires-clause-k_in_bounds c =
+pub variables-at-requires-clause-room : goal.variables-at-requires-clause-room
+variables-at-requires-clause-room c =
     let a = c.args in
     let r = c.requires in
     room (wires a.n a.theta.now a.minus.now a.out.now) (target a.n a.theta.now a.minus.now a.out.now)
-    (quarter_done a.n a.theta.now a.minus.now a.out.now _ (header_done a.n a.theta.now a.minus.now a.out.now r.n_nonzero r.n_bound r.n_in_bounds_3 c.power-gates.result c.power-gates.ensures _ c.put_header.ensures) _ _ c.first_quarter-at.ensures)
+    (quarter_done a.n a.theta.now a.minus.now a.out.now _ (header_done a.n a.theta.now a.minus.now a.out.now r.n_nonzero r.n_bound r.room c.power-gates.result c.power-gates.ensures _ c.put_header.ensures) _ _ c.first_quarter-at.ensures)
 
-pub block-requires-clause-v_in_bounds : goal.block-requires-clause-v_in_bounds
-block-requires-clause-v_in_bounds c =
+pub block-requires-clause-room : goal.block-requires-clause-room
+block-requires-clause-room c =
     let a = c.args in
     let r = c.requires in
     (wires_done a.n a.theta.now a.minus.now a.out.now _ _
-    (quarter_done a.n a.theta.now a.minus.now a.out.now _ (header_done a.n a.theta.now a.minus.now a.out.now r.n_nonzero r.n_bound r.n_in_bounds_3 c.power-gates.result c.power-gates.ensures _ c.put_header.ensures) _ _ c.first_quarter-at.ensures)
+    (quarter_done a.n a.theta.now a.minus.now a.out.now _ (header_done a.n a.theta.now a.minus.now a.out.now r.n_nonzero r.n_bound r.room c.power-gates.result c.power-gates.ensures _ c.put_header.ensures) _ _ c.first_quarter-at.ensures)
     _ _ c.variables-at.ensures).fits
 
 pub returns : goal.returns
@@ -75,6 +75,6 @@ returns c =
     let r = c.requires in
     (all_written
     (wires_done a.n a.theta.now a.minus.now a.out.now _ _
-    (quarter_done a.n a.theta.now a.minus.now a.out.now _ (header_done a.n a.theta.now a.minus.now a.out.now r.n_nonzero r.n_bound r.n_in_bounds_3 c.power-gates.result c.power-gates.ensures _ c.put_header.ensures) _ _ c.first_quarter-at.ensures)
+    (quarter_done a.n a.theta.now a.minus.now a.out.now _ (header_done a.n a.theta.now a.minus.now a.out.now r.n_nonzero r.n_bound r.room c.power-gates.result c.power-gates.ensures _ c.put_header.ensures) _ _ c.first_quarter-at.ensures)
     _ _ c.variables-at.ensures)
     c.block.ensures).written

@@ -2,4 +2,4 @@ use Rattle.std.proofs.Common.{length}
 use Rattle.spectrum.proofs.+transform.Given as goal
 
 abbrev pub decreases-transform : goal.decreases-transform
-decreases-transform l = length l.v.now
+decreases-transform l = length l.row.now

@@ -1,9 +1,10 @@
-use Prim.Native.Nat.{◌-◌}
-use Rattle.spectrum.proofs.Adding.{Adding}
+use Rattle.std.proofs.Common.{◌≡◌}
+use Rattle.numbers.proofs.Lists.{filled}
+use Rattle.spectrum.proofs.Adding.{sum_of, difference_of}
 use Rattle.spectrum.proofs.add_and_subtract.Given as goal
 
 abbrev pub invariant-loop-i : goal.invariant-loop-i
-invariant-loop-i l = Adding l.half l.initial.v l.v l.i
-
-abbrev pub decreases-loop-i : goal.decreases-loop-i
-decreases-loop-i l = l.half - l.i
+invariant-loop-i l = record {
+  front : l.front ≡ filled l.i (sum_of l.initial.front l.initial.back) l.initial.front;
+  back : l.back ≡ filled l.i (difference_of l.initial.front l.initial.back) l.initial.back;
+}

@@ -39,4 +39,4 @@ returns c =
     let small : a.n ≤ 8 = (good_variables a.n a.table.now good).1 in
     let entries : c.power-entries.result ≡ 2 ^ a.n = c.power-entries.ensures ∙ power_fits (omega arith) in
     let written : Signs a.n a.table.now a.out.now c.write_signs.new.out c.power-entries.result = record { small = small; count = entries; fits = omega arith; each = c.write_signs.ensures } in
-    answered a.n a.table.now a.out.now good (omega arith) c.power-entries.result entries _ (leaves_spectrum written c.transform.new.v c.transform.ensures)
+    answered a.n a.table.now a.out.now good (omega arith) c.power-entries.result entries _ (leaves_spectrum written c.transform.new.row c.transform.ensures)

@@ -1,7 +1,6 @@
 use Prim.Native.Nat.{ℕ}
 use mathlib.Core.Path.{ap, ◌∙◌}
 use native.Mathlib.Omega.{arith}
-use lib.ListN.{length-set}
 use lib.IntN.{pos}
 use Rattle.numbers.specs.Turn.{flip}
 use Rattle.numbers.proofs.Lists.{fill_again}
@@ -15,4 +14,4 @@ pub loop-x-preserved : goal.loop-x-preserved
 loop-x-preserved c = let l = c.loop-x in
     let a = c.args in
     let v = sign_stays (value_at a.table.now l.x) c.sign.result (c.sign.ensures ∙ ap (λ (m : ℕ). flip m (pos 1)) c.value.ensures) in
-    (omega arith, length-set l.out l.x _ ∙ l.invariant.1, fill_again l.x (sign_of a.table.now) a.out.now l.out (pos 0) _ (omega arith) l.invariant.2 v)
+    fill_again l.x (sign_of a.table.now) a.out.now l.out (pos 0) _ (omega arith) l.invariant v

@@ -1,7 +1,6 @@
-use Prim.Native.Nat.{ℕ, ◌-◌, ◌≤◌}
+use Prim.Native.Nat.{ℕ}
 use mathlib.Core.Path.{◌≡◌}
 use mathlib.Core.List.{List}
-use lib.ListN.{length}
 use lib.IntN.{ℤ, pos}
 use Rattle.numbers.specs.Turn.{flip}
 use Rattle.numbers.proofs.Lists.{filled}
@@ -12,7 +11,4 @@ abbrev pub sign_of : List ℕ → ℕ → ℤ
 sign_of table x = flip (value_at table x) (pos 1)
 
 abbrev pub invariant-loop-x : goal.invariant-loop-x
-invariant-loop-x l = (l.x ≤ length l.initial.out) × (length l.out ≡ length l.initial.out) × (l.out ≡ filled l.x (sign_of l.table) l.initial.out)
-
-abbrev pub decreases-loop-x : goal.decreases-loop-x
-decreases-loop-x l = length l.initial.out - l.x
+invariant-loop-x l = l.out ≡ filled l.x (sign_of l.table) l.initial.out
