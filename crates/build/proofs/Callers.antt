@@ -2,7 +2,7 @@
 use Rattle.std.proofs.Common.{◌≡◌, ℕ, ◌+◌, ◌^◌, ◌≤◌, List, [], ◌∷◌, ◌++◌, length, drop, ap, arith, pow_mono}
 use Rattle.refusal.specs.declared.Refusal.{Refusal}
 use Rattle.refusal.specs.Checks.{passed, refused, outcome}
-use Rattle.refusal.proofs.Contracts.{Distinct, same_refusal, meets_values, meets_refusal}
+use Rattle.refusal.proofs.Contracts.{Distinct, answers_distinct, meets_values, meets_refusal}
 use Rattle.refusal.proofs.Rooms.{room_suffices}
 use Rattle.table.specs.Table.{table_checks}
 use Rattle.table.proofs.Callers.{good_variables}
@@ -24,7 +24,4 @@ module _ (n : ℕ) (t : List ℕ) where
     build_refuses r e = meets_refusal built_says (outcome (build_checks n t (length before))) (2 ^ (n + 4) ∷ []) (built_file n t) before a after m r (ap built_says e)
 
 pub built_distinct : Distinct built_says
-built_distinct (Ok j) (Ok k) e = cc
-built_distinct (Ok j) (Err r) e = cc
-built_distinct (Err r) (Ok k) e = cc
-built_distinct (Err r) (Err s) e = ap Err (same_refusal r s e)
+built_distinct = answers_distinct (λ (l : ℕ). l ∷ []) (λ j k e. cc)

@@ -3,13 +3,13 @@ use Rattle.std.specs.Prelude.{ℕ, zero, suc, ◌+◌, ◌^◌, List, [], ◌∷
 use Rattle.numbers.specs.Sums.{sum_of}
 use Rattle.numbers.specs.Turn.{difference}
 use Rattle.refusal.specs.Checks.{Check, outcome, room_check}
-use Rattle.refusal.specs.Contract.{Said, values, said_of, Meets}
+use Rattle.refusal.specs.Contract.{Said, answer_says, Meets}
 use Rattle.table.specs.Table.{table_checks, value_at}
 use Rattle.spectrum.specs.Spectrum.{theta}
 use Rattle.circuit.specs.declared.Gate.{Gate}
 use Rattle.circuit.specs.declared.Gate.TheVariants.{Cnot, Phase}
 use Rattle.circuit.specs.File.{file_of}
-use Rattle.std.specs.Prelude.{Result, Ok, Err}
+use Rattle.std.specs.Prelude.{Result}
 use Rattle.refusal.specs.declared.Refusal.{Refusal}
 use Rattle.build.specs.Gray.{turned, word}
 
@@ -56,8 +56,7 @@ build_checks n t room = table_checks n t ++ room_check room (2 ^ (n + 4))
 
 -- the answer is the file's length
 abbrev pub built_says : Result ℕ Refusal → Said
-built_says (Ok l) = values (l ∷ [])
-built_says (Err r) = said_of r
+built_says = answer_says (λ (l : ℕ). l ∷ [])
 
 -- the contract of build
 abbrev pub Builds : ℕ → List ℕ → List ℕ → Result ℕ Refusal → List ℕ → Type 0

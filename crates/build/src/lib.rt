@@ -1,8 +1,7 @@
 // Document 01, "The built circuit": Construction 1 of document 000 as a circuit file.
 #![tactic(auto)]
 
-use refusal::Refusal;
-use spectrum::Transformed;
+use refusal::{Cause, Refusal};
 
 mod angles;
 mod block;
@@ -13,30 +12,22 @@ ghost use Rattle.circuit.specs.File.{file_of};
 ghost use Rattle.build.specs.Construction.{Builds};
 ghost use Rattle.build.specs.Working.{parts};
 
-#[derive(Drop)]
-pub enum Built {
-    Length(usize),
-    Refused(Refusal),
-}
-
 // Puts the circuit file of the table's oracle at the front of out and answers the file's length.
-pub fn build(n: u8, table: &[u8], out: &mut [u8]) -> Built
+pub fn build(n: u8, table: &[u8], out: &mut [u8]) -> Result<usize, Refusal>
     ensures { Builds n table.now out.old result out.new }
 {
     let mut coefficients = [0i32; 256];
-    if let Transformed::Refused(r) = spectrum::spectrum(n, table, &mut coefficients) {
-        return Built::Refused(r);
-    }
+    spectrum::spectrum(n, table, &mut coefficients)?;
     let file = numbers::power(n + 4);
     if out.len() < file {
-        return Built::Refused(refusal::by(refusal::ROOM));
+        return Err(Cause::Room.into());
     }
     let mut theta = [0u16; 256];
     angles::write_angles(n, &coefficients, &mut theta);
     let mut minus = theta;
     numbers::negate(&mut minus);
     write_file(n, &theta, &minus, out);
-    Built::Length(file)
+    Ok(file)
 }
 
 // The header, then the three parts in turn.

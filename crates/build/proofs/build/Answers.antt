@@ -1,10 +1,12 @@
-use Rattle.std.proofs.Common.{◌≡◌, ℕ, ◌+◌, ◌%◌, ◌^◌, ◌<◌, ◌≤◌, List, ◌++◌, length, drop, ℤ, sym, ◌∙◌, arith, pow_mono, rules}
+use Rattle.std.proofs.Common.{◌≡◌, ℕ, ◌+◌, ◌%◌, ◌^◌, ◌<◌, ◌≤◌, List, ◌++◌, length, drop, ℤ, sym, subst, ◌∙◌, arith, pow_mono, rules}
 use Rattle.refusal.specs.Checks.{passed, outcome}
 use Rattle.numbers.proofs.Powers.{power_fits}
 use Rattle.table.specs.Table.{table_checks}
 use Rattle.table.proofs.Callers.{good_variables}
 use Rattle.std.specs.Prelude.{Result, Ok}
 use Rattle.refusal.specs.declared.Refusal.{Refusal}
+use Rattle.refusal.proofs.Contracts.{handed_on}
+use Rattle.build.specs.Construction.{Builds}
 use Rattle.spectrum.specs.Spectrum.{spectrum_of, Transforms}
 use Rattle.spectrum.proofs.Callers.{spectrum_room, spectrum_answers, spectrum_refuses}
 use Rattle.build.proofs.Answers.{zeros, table_fails, room_fails, answered, row_size, leaves_file}
@@ -31,34 +33,34 @@ module _ {n : ℕ} {t : List ℕ} {row : List ℤ} (k : Told n t row) where
   angles_enough : (l : ℕ) → 256 ≤ l → 2 ^ n ≤ l
   angles_enough l h = omega (arith, pow_mono {i = n} {j = 8} k.small)
 
-pub returns-in-Refused : goal.returns-in-Refused
-returns-in-Refused c =
+pub returns-in_err-spectrum : goal.returns-in_err-spectrum
+returns-in_err-spectrum c =
     let a = c.args in
     let q = c.spectrum in
-    let r = c.in-Refused.r in
-    table_fails a.n a.table.now a.out.now r (sym (spectrum_room a.n a.table.now 256 (omega arith)) ∙ (spectrum_refuses a.n a.table.now zeros q.result q.new.out q.ensures r c.in-Refused.is).0)
+    subst (λ r. Builds a.n a.table.now a.out.now r a.out.now) (sym (handed_on c.from_residual.ensures.1))
+    (table_fails a.n a.table.now a.out.now _ (sym (spectrum_room a.n a.table.now 256 (omega arith)) ∙ (spectrum_refuses a.n a.table.now zeros q.result q.new.out q.ensures _ c.in_err-spectrum.was).0))
 
 pub overflow_add-n : goal.overflow_add-n
 overflow_add-n c =
     let a = c.args in
-    omega (arith, (told a.n a.table.now c.spectrum.new.out c.spectrum.result c.spectrum.ensures c.in_default.field-0 c.in_default.is).small)
+    omega (arith, (told a.n a.table.now c.spectrum.new.out c.spectrum.result c.spectrum.ensures c.in_ok-spectrum.field-0 c.in_ok-spectrum.was).small)
 
 pub returns-then-out-file : goal.returns-then-out-file
 returns-then-out-file c =
     let a = c.args in
-    let t = told a.n a.table.now c.spectrum.new.out c.spectrum.result c.spectrum.ensures c.in_default.field-0 c.in_default.is in
-    room_fails a.n a.table.now a.out.now t.good (omega (arith, length_is t c.power-file.result c.power-file.ensures)) c.by.result c.by.ensures
+    let t = told a.n a.table.now c.spectrum.new.out c.spectrum.result c.spectrum.ensures c.in_ok-spectrum.field-0 c.in_ok-spectrum.was in
+    room_fails a.n a.table.now a.out.now t.good (omega (arith, length_is t c.power-file.result c.power-file.ensures)) c.into.result c.into.ensures
 
 pub write_angles-requires : goal.write_angles-requires
 write_angles-requires c =
     let a = c.args in
-    let t = told a.n a.table.now c.spectrum.new.out c.spectrum.result c.spectrum.ensures c.in_default.field-0 c.in_default.is in
+    let t = told a.n a.table.now c.spectrum.new.out c.spectrum.result c.spectrum.ensures c.in_ok-spectrum.field-0 c.in_ok-spectrum.was in
     record { n_bound = t.small; same_length = search rules; small = row_size a.n a.table.now t.small c.spectrum.new.out t.entries }
 
 pub write_file-requires : goal.write_file-requires
 write_file-requires c =
     let a = c.args in
-    let t = told a.n a.table.now c.spectrum.new.out c.spectrum.result c.spectrum.ensures c.in_default.field-0 c.in_default.is in
+    let t = told a.n a.table.now c.spectrum.new.out c.spectrum.result c.spectrum.ensures c.in_ok-spectrum.field-0 c.in_ok-spectrum.was in
     record {
       n_nonzero = t.some;
       n_bound = t.small;
@@ -70,7 +72,7 @@ write_file-requires c =
 pub returns : goal.returns
 returns c =
     let a = c.args in
-    let t = told a.n a.table.now c.spectrum.new.out c.spectrum.result c.spectrum.ensures c.in_default.field-0 c.in_default.is in
+    let t = told a.n a.table.now c.spectrum.new.out c.spectrum.result c.spectrum.ensures c.in_ok-spectrum.field-0 c.in_ok-spectrum.was in
     let long = length_is t c.power-file.result c.power-file.ensures in
     let roomy : 2 ^ (a.n + 4) ≤ length a.out.now = omega (arith, long, c.if-out-file.false) in
     let after = c.write_file.new.out in
