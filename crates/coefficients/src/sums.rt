@@ -21,7 +21,7 @@ fn join_blocks(v: &mut [u16], half: usize, up: bool)
     requires { (0 < half) × (half ≤ length v.old) × (length v.old ≤ most_masks) }
     ensures { (c : ℕ) → length v.old ≡ c * (half + half) → v.new ≡ in_blocks (joined up half) (half + half) c v.old }
 {
-    // what is written through `chunks_exact_mut` is not known to a proof
+    // of what is written through `chunks_exact_mut` a proof knows nothing: `returns` stays open
     let size = half + half;
     for block in 0..v.len() / size {
         let start = block * size;
@@ -47,7 +47,7 @@ fn add_row(to: &mut [u16], from: &[u16])
     requires { length to.old ≡ length from.now }
     ensures { to.new ≡ list (length to.old) (λ i. (entry to.old i + entry from.now i) % 65536) }
 {
-    // nor what is written through a `zip` of `iter_mut`
+    // of what is written through a `zip` of `iter_mut` a proof knows nothing: `returns` stays open
     for (i, sum) in to.iter_mut().enumerate() {
         *sum = sum.wrapping_add(from[i]);
     }

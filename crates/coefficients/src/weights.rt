@@ -14,7 +14,7 @@ pub(crate) fn weigh(v: &[u16], constant: u16, out: &mut [u16])
     ensures { out.new ≡ put_at (list (length v.now) (weighed constant v.now)) 0 out.old }
 {
     if v.len() <= out.len() {
-        // what is written through a `zip` of `out.iter_mut()` is not known to a proof
+        // of what is written through a `zip` of `iter_mut` a proof knows nothing: `returns` stays open
         for (s, sum) in v.iter().enumerate() {
             out[s] = entry_of(s, constant, *sum);
         }

@@ -30,7 +30,7 @@ fn subtract(first: &[u16], second: &[u16], work: &mut [u16])
     requires { (length work.old ≤ length first.now) × (length work.old ≤ length second.now) }
     ensures { work.new ≡ list (length work.old) (λ s. difference (entry first.now s) (entry second.now s)) }
 {
-    // what is written through a `zip` of `iter_mut` is not known to a proof
+    // of what is written through a `zip` of `iter_mut` a proof knows nothing: `returns` stays open
     for (s, entry) in work.iter_mut().enumerate() {
         *entry = first[s].wrapping_sub(second[s]);
     }
