@@ -1,58 +1,47 @@
 -- One half of a row added to the other, entry by entry.
-use Rattle.std.proofs.Common.{◌≡◌, ℕ, suc, ◌+◌, ◌%◌, ◌<◌, ◌≤◌, true, false, ◌⊎◌, List, ◌++◌, length, take, drop, set, sym, refl, ap, ◌∙◌, ap₂, inl, inr, ⊎_elim, zero-add, add-one, arith, length-drop, length-set, take-append-drop, length-take-le, get_or-drop, get_or-set_other, get_or-take, get_or-set_same}
-use native.Mathlib.Decide.{ℕ_discrete}
+use Rattle.std.proofs.Common.{◌≡◌, ℕ, ◌+◌, ◌%◌, ◌<◌, true, false, List, ◌++◌, length, take, drop, ap, ◌∙◌, ap₂, arith, length-drop, length-take-le, get_or-drop, get_or-take, get_or-append-add, add-zero}
 use Rattle.numbers.specs.Sums.{list}
-use Rattle.numbers.proofs.Lists.{is_list}
-use Rattle.coefficients.specs.Working.{entry, joined, Added}
+use Rattle.numbers.proofs.Lists.{length-list, is_list, list_ext, filled}
+use Rattle.coefficients.specs.Working.{entry, joined}
 
--- the first i entries are added
-pub record Adding (to from count : ℕ) (before now : List ℕ) (i : ℕ) : Type 0 where
-  pub within : i ≤ count
-  pub added : Added to from i before now
+-- each entry of `a` with the one of `b` at its place
+abbrev pub added : List ℕ → List ℕ → ℕ → ℕ
+added a b i = (entry a i + entry b i) % 65536
 
-pub adding_starts : (to from count : ℕ) (v : List ℕ) → Adding to from count v v 0
-adding_starts to from count v = record { within = omega arith; added = record { long = refl; sums = λ j h. absurd (omega arith); others = λ k h. refl } }
+-- a loop's turn finds the entry as it was
+pub still_there : (to from now : List ℕ) (i : ℕ) → now ≡ filled i (added to from) to → (entry now i + entry from i) % 65536 ≡ added to from i
+still_there to from now i e =
+    let done : List ℕ = list i (added to from) in
+    let here : i ≡ length done + 0 = omega (arith, length-list i (added to from)) in
+    ap (λ (n : ℕ). (n + entry from i) % 65536)
+    (ap₂ entry e here ∙ get_or-append-add done (drop i to) 0 0 ∙ get_or-drop i to 0 0 ∙ ap (entry to) (add-zero i))
 
-module _ (to from count : ℕ) (before now : List ℕ) (i : ℕ) (fits : to + count ≤ length before) (apart : (to + count ≤ from) ⊎ (from + count ≤ to))
-    (a : Adding to from count before now i) (h : i < count) where
-  here : entry now (to + i) ≡ entry before (to + i)
-  here = a.added.others (to + i) (inr (omega arith))
+module _ (h : ℕ) (v : List ℕ) (fits : h + h ≡ length v) (lower upper : List ℕ) (front : lower ≡ take h v) (back : upper ≡ drop h v) where
+  lower_long : length lower ≡ h
+  lower_long = ap length front ∙ length-take-le h v (omega arith)
 
-  there : entry now (from + i) ≡ entry before (from + i)
-  there = a.added.others (from + i) (⊎_elim (λ l. inr (omega arith)) (λ l. inl (omega arith)) apart)
+  upper_long : length upper ≡ h
+  upper_long = ap length back ∙ length-drop h v ∙ omega arith
 
-  module _ (value : ℕ) (e : value ≡ (entry now (to + i) + entry now (from + i)) % 65536) where
-    sums : (j : ℕ) → j < suc i → Dec (j ≡ i) → entry (set now (to + i) value) (to + j) ≡ (entry before (to + j) + entry before (from + j)) % 65536
-    sums j l (yes d) = rw d (get_or-set_same now (to + i) value 0 (omega (arith, a.added.long)) ∙ e ∙ ap₂ (λ (m n : ℕ). (m + n) % 65536) here there)
-    sums j l (no d) = get_or-set_other now (to + i) (to + j) value 0 (omega (arith, d)) ∙ a.added.sums j (omega (arith, d))
+  lower_at : (i : ℕ) → i < h → entry lower i ≡ entry v i
+  lower_at i k = ap (λ (l : List ℕ). entry l i) front ∙ get_or-take h v i 0 k
 
-    others : (k : ℕ) → (k < to) ⊎ (to + suc i ≤ k) → entry (set now (to + i) value) k ≡ entry before k
-    others k (inl l) = get_or-set_other now (to + i) k value 0 (omega arith) ∙ a.added.others k (inl l)
-    others k (inr l) = get_or-set_other now (to + i) k value 0 (omega arith) ∙ a.added.others k (inr (omega arith))
-
-    pub adding_again : Adding to from count before (set now (to + i) value) (i + 1)
-    adding_again =
-        rw (add-one i)
-        (record { within = h; added = record { long = length-set now (to + i) value ∙ a.added.long; sums = λ j l. sums j l (ℕ_discrete j i); others = others } })
-
-module _ (h : ℕ) (before after : List ℕ) (fits : h + h ≡ length before) where
-  halves : (f g : ℕ → ℕ) → length after ≡ length before → ((i : ℕ) → i < h → entry after i ≡ f i) → ((i : ℕ) → i < h → entry after (h + i) ≡ g i) → after ≡ list h f ++ list h g
-  halves f g l p q =
-      sym (take-append-drop h after)
-      ∙ ap₂ ◌++◌ (is_list 0 (take h after) h f (length-take-le h after (omega arith)) (λ i k. get_or-take h after i 0 k ∙ p i k))
-      (is_list 0 (drop h after) h g (length-drop h after ∙ omega arith) (λ i k. get_or-drop h after i 0 ∙ q i k))
+  upper_at : (i : ℕ) → entry upper i ≡ entry v (h + i)
+  upper_at i = ap (λ (l : List ℕ). entry l i) back ∙ get_or-drop h v i 0
 
   -- the upper half added to the lower
-  pub joined_up : Added 0 h h before after → after ≡ joined true h before
+  pub joined_up : (sums : List ℕ) → sums ≡ list (length lower) (added lower upper) → sums ++ upper ≡ joined true h v
   unfolding joined
-  joined_up a =
-      halves (λ i. (entry before i + entry before (h + i)) % 65536) (λ i. entry before (h + i)) a.long
-      (λ i k. ap (entry after) (sym (zero-add i)) ∙ a.sums i k ∙ ap (λ (n : ℕ). (entry before n + entry before (h + i)) % 65536) (zero-add i))
-      (λ i k. a.others (h + i) (inr (omega arith)))
+  joined_up sums e =
+      ap₂ ◌++◌
+      (e ∙ ap (λ (n : ℕ). list n (added lower upper)) lower_long
+      ∙ list_ext h (added lower upper) (λ i. (entry v i + entry v (h + i)) % 65536) (λ i k. ap₂ (λ (a b : ℕ). (a + b) % 65536) (lower_at i k) (upper_at i)))
+      (is_list 0 upper h (λ i. entry v (h + i)) upper_long (λ i k. upper_at i))
 
   -- the lower half added to the upper
-  pub joined_down : Added h 0 h before after → after ≡ joined false h before
+  pub joined_down : (sums : List ℕ) → sums ≡ list (length upper) (added upper lower) → lower ++ sums ≡ joined false h v
   unfolding joined
-  joined_down a =
-      halves (entry before) (λ i. (entry before (h + i) + entry before i) % 65536) a.long (λ i k. a.others i (inl k))
-      (λ i k. a.sums i k ∙ ap (λ (n : ℕ). (entry before (h + i) + entry before n) % 65536) (zero-add i))
+  joined_down sums e =
+      ap₂ ◌++◌ (is_list 0 lower h (entry v) lower_long lower_at)
+      (e ∙ ap (λ (n : ℕ). list n (added upper lower)) upper_long
+      ∙ list_ext h (added upper lower) (λ i. (entry v (h + i) + entry v i) % 65536) (λ i k. ap₂ (λ (a b : ℕ). (a + b) % 65536) (upper_at i) (lower_at i k)))

@@ -1,26 +1,14 @@
--- A row walked block by block, and two neighbouring blocks gathered as one.
-use Rattle.std.proofs.Common.{◌≡◌, ℕ, zero, suc, ◌+◌, ◌-◌, ◌*◌, ◌%◌, ◌^◌, ◌<◌, ◌≤◌, Bool, true, false, List, [], ◌∷◌, ◌++◌, length, take, drop, sym, refl, ap, ◌∙◌, ap₂, append_assoc, append-nil, mod-eq_of_lt, suc-mul, add_comm, lt_of_mul-lt-mul_right, one-mul, zero-add, zero-mul, le_of_mul-le-mul_right, arith, length-append, drop_of_length-le, take_all, drop-drop, take_at, drop_at, pow-add}
+-- A row, block by block, and two neighbouring blocks gathered as one.
+use Rattle.std.proofs.Common.{◌≡◌, ℕ, zero, suc, ◌+◌, ◌-◌, ◌*◌, ◌%◌, ◌^◌, ◌<◌, ◌≤◌, Bool, true, false, List, [], ◌∷◌, ◌++◌, length, take, drop, sym, refl, ap, ◌∙◌, ap₂, append_assoc, append-nil, mod-eq_of_lt, suc-mul, add_comm, add-one, one-mul, zero-add, zero-mul, arith, length-append, drop_of_length-le, take_all, drop-drop, take_at, drop_at, pow-add}
 use native.Mathlib.Nat.{two-pow-succ}
 use lib.Seq.{take-append-add, drop-append-add}
 use lib.Pow.{pow-lt}
-use borrow.Rule.Slice.PartMut.{mid_of, post_of, put_mid, same_len_mid, mid_len}
+use borrow.Rule.Slice.PartMut.{mid_of, post_of, put_mid}
 use Rattle.numbers.specs.Sums.{list}
 use Rattle.numbers.proofs.Lists.{length-list}
 use Rattle.numbers.proofs.Subsets.{subset_none}
 use Rattle.coefficients.specs.Working.{entry, counts, gathered, joined, in_blocks}
 use Rattle.coefficients.proofs.Gathering.{length-gathered, gathered_front, halves, by_halves}
-
--- the blocks before `at` are done
-pub record Walked (f : List ℕ → List ℕ) (s : ℕ) (before now : List ℕ) (at : ℕ) : Type 0 where
-  pub count : ℕ
-  pub place : at ≡ count * s
-  pub within : at ≤ length before
-  pub long : length now ≡ length before
-  pub done : now ≡ in_blocks f s count before
-
-pub walk_starts : (f : List ℕ → List ℕ) (s : ℕ) (v : List ℕ) → Walked f s v v 0
-unfolding in_blocks
-walk_starts f s v = record { count = 0; place = sym (zero-mul s); within = omega arith; long = refl; done = refl }
 
 next_block : (f : List ℕ → List ℕ) (s : ℕ) → ((b : List ℕ) → length (f b) ≡ s) → (c : ℕ) (v : List ℕ)
     → put_mid (c * s) s (in_blocks f s c v) (f (mid_of (c * s) s (in_blocks f s c v))) ≡ in_blocks f s (suc c) v
@@ -35,34 +23,13 @@ next_block f s fits (suc c) v =
     ∙ append_assoc a (take (c * s) r) (f (mid_of (c * s) s r) ++ post_of (c * s) s r)
     ∙ ap (a ++◌) (next_block f s fits c (drop s v))
 
-module _ (f : List ℕ → List ℕ) (s : ℕ) (before now : List ℕ) (at : ℕ) (w : Walked f s before now at) where
-  -- the block from `at` on, which is lent
-  abbrev part : List ℕ
-  part = mid_of at (at + s - at) now
-
-  pub part_long : at + s ≤ length before → length part ≡ s
-  part_long h = mid_len at (at + s) now (omega (arith, w.long)) ∙ omega arith
-
-  -- it comes back done
-  pub walk_again : ((b : List ℕ) → length (f b) ≡ s) → at + s ≤ length before → (back : List ℕ) → length back ≡ length part → back ≡ f part
-      → Walked f s before (put_mid at (at + s - at) now back) (at + s)
-  walk_again fits h back l e =
-      let k : at + s - at ≡ s = omega arith in
-      record {
-        count = suc w.count;
-        place = ap (◌+ s) w.place ∙ sym (suc-mul w.count s);
-        within = h;
-        long = same_len_mid at (at + s - at) now back l ∙ w.long;
-        done =
-            ap (put_mid at (at + s - at) now) e ∙ (λ i. put_mid (w.place i) (k i) (w.done i) (f (mid_of (w.place i) (k i) (w.done i))))
-            ∙ next_block f s fits w.count before;
-      }
-
-  pub walk_ends : 0 < s → length before < at + s → (c : ℕ) → length before ≡ c * s → now ≡ in_blocks f s c before
-  walk_ends p h c e =
-      let few : w.count ≤ c = le_of_mul-le-mul_right {m = w.count} {n = c} {k = s} (omega (arith, w.place, w.within, e)) p in
-      let all : c < suc w.count = lt_of_mul-lt-mul_right s (omega (arith, suc-mul w.count s, w.place, e)) in
-      w.done ∙ ap (λ (k : ℕ). in_blocks f s k before) (let z : w.count ≡ c = omega arith in z)
+-- a loop's turn: the next block, which was lent, comes back as f's
+pub block_again : (f : List ℕ → List ℕ) (s : ℕ) → ((b : List ℕ) → length (f b) ≡ s) → (before now : List ℕ) (c : ℕ) → now ≡ in_blocks f s c before
+    → (back : List ℕ) → back ≡ f (mid_of (c * s) (c * s + s - c * s) now) → put_mid (c * s) (c * s + s - c * s) now back ≡ in_blocks f s (c + 1) before
+block_again f s fits before now c done back e =
+    let k : c * s + s - c * s ≡ s = omega arith in
+    ap (put_mid (c * s) (c * s + s - c * s) now) e ∙ (λ i. put_mid (c * s) (k i) (done i) (f (mid_of (c * s) (k i) (done i))))
+    ∙ next_block f s fits c before ∙ ap (λ (n : ℕ). in_blocks f s n before) (sym (add-one c))
 
 pub length-joined : (up : Bool) (h : ℕ) (v : List ℕ) → length (joined up h v) ≡ h + h
 unfolding joined

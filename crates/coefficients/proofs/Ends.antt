@@ -13,7 +13,7 @@ use Rattle.circuit.specs.declared.Gate.{Gate}
 use Rattle.circuit.specs.Working.{AllSound}
 use Rattle.circuit.proofs.Decoding.{all_wider}
 use Rattle.running.specs.Run.{end_from}
-use Rattle.running.specs.Masks.{most_wires, most_masks}
+use Rattle.running.specs.Masks.{most_wires}
 use Rattle.running.specs.Working.{own_numbers, numbers_from, start_of}
 use Rattle.running.proofs.Masks.{length-numbers, dot_start, wire_parity}
 use Rattle.running.proofs.Runs.{end_below}
@@ -24,27 +24,21 @@ use Rattle.coefficients.specs.Working.{entry, column, listed_column}
 abbrev pub column_to : List ℕ → ℕ → ℕ → ℕ
 column_to held j i = sum j (λ k. bit (entry held k) i * 2 ^ k)
 
--- one wire more
-module _ (held : List ℕ) (i j state place : ℕ) (p : place ≡ 2 ^ j) (e : state ≡ column_to held j i) (h : j < most_wires) where
-  small : 2 ^ (j + 1) ≤ most_masks
-  small = pow_mono {i = j + 1} {j = most_wires} (omega arith)
+-- one wire more, whose bit is shifted to its place
+module _ (held : List ℕ) (i j state : ℕ) (e : state ≡ column_to held j i) (h : j < most_wires) where
+  column_small : column_to held (suc j) i < 2 ^ 16
+  column_small =
+      let b : column_to held (suc j) i < 2 ^ suc j = digits_below (suc j) (λ k. bit (entry held k) i) (λ k. omega arith) in
+      omega (arith, b, pow_mono {i = suc j} {j = most_wires} (omega arith))
 
-  pub place_next : place + place ≡ 2 ^ (j + 1)
-  place_next = (let z : place + place ≡ 2 ^ suc j = omega (arith, p) in z) ∙ ap (2 ^◌) (sym (add-one j))
+  bit_placed : bit (entry held j) i * 2 ^ j % 65536 ≡ bit (entry held j) i * 2 ^ j
+  bit_placed = mod-eq_of_lt (omega (arith, column_small))
 
-  pub place_fits : place + place < 2 ^ 16
-  place_fits = omega (arith, place_next, small)
+  pub column_next : state + bit (entry held j) i * 2 ^ j % 65536 ≡ column_to held (j + 1) i
+  column_next = ap₂ ◌+◌ e bit_placed ∙ ap (λ (n : ℕ). column_to held n i) (sym (add-one j))
 
-  pub column_next : state + bit (entry held j) i * place ≡ column_to held (j + 1) i
-  column_next = ap₂ (λ (s q : ℕ). s + bit (entry held j) i * q) e p ∙ ap (λ (n : ℕ). column_to held n i) (sym (add-one j))
-
-  pub column_fits : state + bit (entry held j) i * place < 2 ^ 16
-  column_fits =
-      let b : column_to held (j + 1) i < 2 ^ (j + 1) = digits_below (j + 1) (λ k. bit (entry held k) i) (λ k. omega arith) in
-      omega (arith, column_next, small)
-
-  pub bit_fits : bit (entry held j) i * place < 2 ^ 16
-  bit_fits = omega (arith, column_fits)
+  pub column_fits : state + bit (entry held j) i * 2 ^ j % 65536 < 2 ^ 16
+  column_fits = omega (arith, e, bit_placed, column_small)
 
 -- a wire's own start: its column, with the flips
 pub turned_column : (held : List ℕ) (i c f : ℕ) → (i ≡ 0 → ⊥) → c ≡ column held i → f ≡ column held 0 → bit_xor c f ≡ listed_column held i

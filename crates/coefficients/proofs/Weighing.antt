@@ -1,14 +1,11 @@
 -- The weights of the sets, by how many wires they have, and a sum weighed by them.
-use Rattle.std.proofs.Common.{◌≡◌, ℕ, zero, suc, ◌*◌, ◌%◌, ◌^◌, ◌<◌, List, [], ◌∷◌, refl, ap, ◌∙◌, lt_of_le_of_lt, le_of_lt, mul-le-mul_left, mul-lt-mul_of_pos_right, arith}
+use Rattle.std.proofs.Common.{◌≡◌, ℕ, zero, suc, ◌*◌, ◌%◌, ◌<◌, List, [], ◌∷◌, refl, ap, ◌∙◌, arith}
 use lib.Count.{ones, ones-le}
 use Rattle.numbers.specs.Sums.{list}
 use Rattle.numbers.proofs.Lists.{get_or-list}
 use Rattle.numbers.proofs.Turns.{≈-scale, ≈-mod}
 use Rattle.running.specs.Masks.{most_wires, most_masks}
 use Rattle.coefficients.specs.Working.{entry, weight_of, weight_at, weighed_at}
-
-pub product_fits : (a b : ℕ) → a < 65536 → b < 65536 → a * b < 2 ^ 32
-product_fits a b ha hb = lt_of_le_of_lt (mul-le-mul_left a (le_of_lt hb)) (mul-lt-mul_of_pos_right ha (let z : 0 < 65536 = omega arith in z))
 
 -- a set of up to ten wires
 pub few_ones : (s : ℕ) → s < most_masks → ones s < 11

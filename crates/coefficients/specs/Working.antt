@@ -1,5 +1,5 @@
 -- What the working computes on the way to a summary; the laws show that it is the paper's.
-use Rattle.std.specs.Prelude.{◌≡◌, ℕ, zero, suc, ◌+◌, ◌*◌, ◌/◌, ◌%◌, ◌^◌, ◌<◌, ◌≤◌, Bool, true, false, ◌⊎◌, List, ◌++◌, length, take, drop, bit_xor, count_ones, slice_index, slice_set}
+use Rattle.std.specs.Prelude.{ℕ, zero, suc, ◌+◌, ◌*◌, ◌/◌, ◌%◌, ◌^◌, Bool, true, false, List, ◌++◌, length, take, drop, bit_xor, count_ones, slice_index, slice_set}
 use Rattle.numbers.specs.Bits.{bit, subset}
 use Rattle.numbers.specs.Turn.{difference}
 use Rattle.numbers.specs.Sums.{sum, list}
@@ -27,12 +27,6 @@ joined false h v = list h (λ i. entry v i) ++ list h (λ i. (entry v (h + i) + 
 unfoldable pub in_blocks : (List ℕ → List ℕ) → ℕ → ℕ → List ℕ → List ℕ
 in_blocks f s zero v = v
 in_blocks f s (suc c) v = f (take s v) ++ in_blocks f s c (drop s v)
-
--- the entries from `from` on added to those from `to` on
-pub record Added (to from count : ℕ) (before after : List ℕ) : Type 0 where
-  pub long : length after ≡ length before
-  pub sums : (j : ℕ) → j < count → entry after (to + j) ≡ (entry before (to + j) + entry before (from + j)) % 65536
-  pub others : (k : ℕ) → (k < to) ⊎ (to + count ≤ k) → entry after k ≡ entry before k
 
 -- (-2)^(k-1) for a set of k wires, and nothing for the empty set
 abbrev pub weight_of : ℕ → ℕ

@@ -48,12 +48,8 @@ fn put_ideal(table: &[u8], v: &mut [u16])
 fn put_turns(table: &[u8], v: &mut [u16])
     ensures { v.new ≡ list (length v.old) (λ x. 32768 * value_at table.now x) }
 {
-    let size = v.len();
-    let mut x: usize = 0;
-    while x < size {
-        let value = table::value(table, x) as u16;
-        v[x] = 32768 * value;
-        x += 1;
+    for (x, angle) in v.iter_mut().enumerate() {
+        *angle = 32768 * table::value(table, x) as u16;
     }
 }
 
@@ -62,12 +58,7 @@ fn put(values: &[u16], out: &mut [u16])
     ensures { out.new ≡ put_at values.now 0 out.old }
 {
     let size = values.len();
-    if out.len() < size {
-        return;
-    }
-    let mut i: usize = 0;
-    while i < size {
-        out[i] = values[i];
-        i += 1;
+    if size <= out.len() {
+        out[..size].copy_from_slice(values);
     }
 }

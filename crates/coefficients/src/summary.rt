@@ -46,13 +46,10 @@ fn put_ends(held: &[u16], ends: &mut [u16])
     ensures { ends.new ≡ put_at (list (length held.now + 1) (listed_column held.now)) 0 ends.old }
 {
     let starts = held.len() + 1;
-    if ends.len() < starts {
-        return;
-    }
-    let mut i: usize = 0;
-    while i < starts {
-        ends[i] = end_of(held, i);
-        i += 1;
+    if starts <= ends.len() {
+        for (i, end) in ends[..starts].iter_mut().enumerate() {
+            *end = end_of(held, i);
+        }
     }
 }
 
@@ -74,12 +71,8 @@ fn column_of(held: &[u16], i: usize) -> u16
     ensures { result ≡ column held.now i }
 {
     let mut state: u16 = 0;
-    let mut place: u16 = 1;
-    let mut j: usize = 0;
-    while j < held.len() {
-        state += ((held[j] >> i) % 2) * place;
-        place += place;
-        j += 1;
+    for (j, number) in held.iter().enumerate() {
+        state += ((*number >> i) % 2) << j;
     }
     state
 }

@@ -1,7 +1,8 @@
 // Sums by halves: at each set, the entries of the sets that contain it, or of those that lie in it.
-ghost use Rattle.std.specs.Prelude.{◌≡◌, ℕ, ◌+◌, ◌*◌, ◌^◌, ◌<◌, ◌≤◌, ◌⊎◌, length};
+ghost use Rattle.std.specs.Prelude.{◌≡◌, ℕ, ◌+◌, ◌*◌, ◌%◌, ◌^◌, ◌<◌, ◌≤◌, length};
+ghost use Rattle.numbers.specs.Sums.{list};
 ghost use Rattle.running.specs.Masks.{most_masks};
-ghost use Rattle.coefficients.specs.Working.{gathered, joined, in_blocks, Added};
+ghost use Rattle.coefficients.specs.Working.{entry, gathered, joined, in_blocks};
 
 // Blocks of one entry at first, then each two neighbours made one, until one block is left.
 pub(crate) fn gather(v: &mut [u16], up: bool)
@@ -20,11 +21,11 @@ fn join_blocks(v: &mut [u16], half: usize, up: bool)
     requires { (0 < half) × (half ≤ length v.old) × (length v.old ≤ most_masks) }
     ensures { (c : ℕ) → length v.old ≡ c * (half + half) → v.new ≡ in_blocks (joined up half) (half + half) c v.old }
 {
+    // of what is written through `chunks_exact_mut` a proof knows nothing: `returns` stays open
     let size = half + half;
-    let mut at: usize = 0;
-    while at + size <= v.len() {
-        join_halves(&mut v[at..at + size], half, up);
-        at += size;
+    for block in 0..v.len() / size {
+        let start = block * size;
+        join_halves(&mut v[start..start + size], half, up);
     }
 }
 
@@ -33,24 +34,21 @@ fn join_halves(v: &mut [u16], half: usize, up: bool)
     requires { half + half ≡ length v.old }
     ensures { v.new ≡ joined up half v.old }
 {
+    let (lower, upper) = v.split_at_mut(half);
     if up {
-        add_rows(v, 0, half, half);
+        add_row(lower, upper);
     } else {
-        add_rows(v, half, 0, half);
+        add_row(upper, lower);
     }
 }
 
-// The `count` entries from `from` on are added to those from `to` on.
-fn add_rows(v: &mut [u16], to: usize, from: usize, count: usize)
-    requires count_in_bounds { to + count ≤ length v.old }
-    requires count_in_bounds_2 { from + count ≤ length v.old }
-    requires fact { (to + count ≤ from) ⊎ (from + count ≤ to) }
-    ensures { Added to from count v.old v.new }
+// Each entry of the one row is added to the other's at its place.
+fn add_row(to: &mut [u16], from: &[u16])
+    requires { length to.old ≡ length from.now }
+    ensures { to.new ≡ list (length to.old) (λ i. (entry to.old i + entry from.now i) % 65536) }
 {
-    let mut i: usize = 0;
-    while i < count {
-        let sum = std::num::wrapping_add_u16(v[to + i], v[from + i]);
-        v[to + i] = sum;
-        i += 1;
+    // of what is written through a `zip` of `iter_mut` a proof knows nothing: `returns` stays open
+    for (i, sum) in to.iter_mut().enumerate() {
+        *sum = sum.wrapping_add(from[i]);
     }
 }

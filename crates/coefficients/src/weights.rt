@@ -13,15 +13,11 @@ pub(crate) fn weigh(v: &[u16], constant: u16, out: &mut [u16])
     requires { length v.now ≤ most_masks }
     ensures { out.new ≡ put_at (list (length v.now) (weighed constant v.now)) 0 out.old }
 {
-    let size = v.len();
-    if out.len() < size {
-        return;
-    }
-    let mut s: usize = 0;
-    while s < size {
-        let sum = v[s];
-        out[s] = entry_of(s, constant, sum);
-        s += 1;
+    if v.len() <= out.len() {
+        // of what is written through a `zip` of `iter_mut` a proof knows nothing: `returns` stays open
+        for (s, sum) in v.iter().enumerate() {
+            out[s] = entry_of(s, constant, *sum);
+        }
     }
 }
 
@@ -33,18 +29,12 @@ fn entry_of(s: usize, constant: u16, sum: u16) -> u16
     if s == 0 {
         return constant;
     }
-    product(weight(s), sum)
+    weight(s).wrapping_mul(sum)
 }
 
 fn weight(s: usize) -> u16
     requires { s < most_masks }
     ensures { result ≡ weight_at s }
 {
-    WEIGHTS[usize::count_ones(s) as usize]
-}
-
-fn product(a: u16, b: u16) -> u16
-    ensures { result ≡ a * b % 65536 }
-{
-    ((a as u32) * (b as u32) % 65536) as u16
+    WEIGHTS[s.count_ones() as usize]
 }

@@ -74,12 +74,9 @@ pub(crate) fn tally_of(totals: &[u16]) -> Tally
 {
     let mut kept: u16 = 0;
     let mut score: u16 = 0;
-    let mut n: usize = 0;
-    while n < totals.len() {
-        let total = totals[n];
-        kept += stays(total);
-        score += running::scored(total);
-        n += 1;
+    for total in totals {
+        kept += stays(*total);
+        score += running::scored(*total);
     }
     Tally { kept, score }
 }

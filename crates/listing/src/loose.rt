@@ -26,16 +26,13 @@ fn lowest_loose(held: &[u16], wires: usize) -> usize
     requires { (wires ≤ length held.now) × (wires ≤ most_wires) }
     ensures { result ≡ least (unlike (λ i. get_or held.now i 0) (λ i. 2 ^ suc i)) wires 0 }
 {
-    let mut wire: usize = 0;
-    while wire < wires {
+    for (wire, left) in held[..wires].iter().enumerate() {
         let own = 2u16 << wire;
-        let left = held[wire];
-        if left != own {
+        if *left != own {
             return wire;
         }
-        wire += 1;
     }
-    wire
+    wires
 }
 
 // Whether a good file is not to be listed for its loose wires. A plain listing asks nothing of them.

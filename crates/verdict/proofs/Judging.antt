@@ -1,5 +1,5 @@
 -- Summaries judged by their numbers give the verdict on their sides.
-use Rattle.std.proofs.Common.{◌≡◌, ℕ, zero, suc, ◌+◌, ◌*◌, ◌/◌, ◌%◌, ◌^◌, ◌<◌, ◌≤◌, min, sym, refl, ap, ◌∙◌, ap₂, mod-eq_of_lt, one-mul, add-one, arith, le-ltb, lt-ltb}
+use Rattle.std.proofs.Common.{◌≡◌, ℕ, zero, suc, ◌+◌, ◌-◌, ◌*◌, ◌/◌, ◌%◌, ◌^◌, ◌<◌, ◌≤◌, min, List, take, drop, get_or, get_or-take, get_or-drop, sym, refl, ap, ◌∙◌, ap₂, mod-eq_of_lt, one-mul, add-one, arith, le-ltb, lt-ltb}
 use native.Mathlib.Nat.{min-eq_left, min-eq_right}
 use native.Mathlib.Decide.{dec_lt}
 use lib.Bits.{bit_xor}
@@ -16,11 +16,24 @@ use Rattle.numbers.proofs.Digits.{by_bits}
 use Rattle.numbers.proofs.Search.{Lowest, lowest_map, unlike_found}
 use Rattle.running.specs.Masks.{most_wires}
 use Rattle.coefficients.specs.Coefficients.{listed_start}
+use Rattle.coefficients.specs.Working.{entry}
 use Rattle.verdict.specs.declared.Verdict.TheVariants.{Same, Different}
 use Rattle.verdict.specs.Verdicts.{Side, verdict_at, verdict, differences}
 use Rattle.verdict.specs.Working.{Summary, lowest_place, end_of, judged_at, judged}
 use Rattle.verdict.proofs.Lowest.{verdict_found}
 use Rattle.verdict.proofs.Scanning.{Summed, scan_finds, scan_phase}
+
+-- the wrapping subtraction
+pub wrapped_less : (a b : ℕ) → b < 65536 → (a + (65536 - b)) % 65536 ≡ difference a b
+wrapped_less a b h = omega arith
+
+-- the first minus the second, place by place
+abbrev pub less : List ℕ → List ℕ → ℕ → ℕ
+less first second s = difference (entry first s) (entry second s)
+
+-- the wires' own ends stand behind that of start 0
+pub own_end : (ends : List ℕ) (w i : ℕ) → i < w → get_or (take (w + 1 - 1) (drop 1 ends)) i 0 ≡ entry ends (i + 1)
+own_end ends w i h = get_or-take (w + 1 - 1) (drop 1 ends) i 0 (omega arith) ∙ get_or-drop 1 ends i 0 ∙ ap (entry ends) (let e : 1 + i ≡ i + 1 = omega arith in e)
 
 -- one bit more
 pub end_next : (ends : ℕ → ℕ) (state end i r : ℕ) → end ≡ end_of i ends state → r ≡ bit state i * ends (i + 1) → bit_xor end r ≡ end_of (i + 1) ends state

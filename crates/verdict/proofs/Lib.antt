@@ -5,3 +5,4 @@ pub mod Sides
 mod Judging
 mod Answers
 mod Summing
+mod Pairs

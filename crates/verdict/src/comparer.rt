@@ -5,6 +5,7 @@ ghost use Rattle.verdict.specs.Judging.{Compares, Judges};
 
 use crate::Compared;
 use crate::summaries::judge_summaries;
+use crate::summary::Summary;
 use circuit::Reading;
 use coefficients::STARTS;
 use running::MASKS;
@@ -29,12 +30,16 @@ pub fn compare(first: &[u8], second: &[u8], work: &mut [u16]) -> Compared
             wires: width,
             gates: _,
         } => judge_summaries(
-            wires,
-            &first_row,
-            &first_ends,
-            width,
-            &second_row,
-            &second_ends,
+            &Summary {
+                wires,
+                row: &first_row,
+                ends: &first_ends,
+            },
+            &Summary {
+                wires: width,
+                row: &second_row,
+                ends: &second_ends,
+            },
             work,
         ),
     }
@@ -59,12 +64,16 @@ pub fn judge(n: u8, table: &[u8], file: &[u8], work: &mut [u16]) -> Compared
     match coefficients::summarise(file, 0, &mut row, &mut ends) {
         Reading::Refused(refusal) => Compared::Refused(refusal),
         Reading::Circuit { wires, gates: _ } => judge_summaries(
-            wires,
-            &row,
-            &ends,
-            n + 1,
-            &ideal_row,
-            &ideal_ends,
+            &Summary {
+                wires,
+                row: &row,
+                ends: &ends,
+            },
+            &Summary {
+                wires: n + 1,
+                row: &ideal_row,
+                ends: &ideal_ends,
+            },
             work,
         ),
     }

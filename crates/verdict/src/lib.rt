@@ -6,6 +6,9 @@ use refusal::Refusal;
 // both sides summed up
 mod comparer;
 
+// one side summed up
+mod summary;
+
 // two summaries judged
 mod summaries;
 

@@ -1,19 +1,13 @@
-use Rattle.std.proofs.Common.{◌+◌, arith}
-use Rattle.coefficients.specs.Working.{joined}
-use Rattle.coefficients.proofs.Blocks.{walk_starts, walk_again, walk_ends, length-joined}
+use Rattle.std.proofs.Common.{◌+◌, refl}
+use Rattle.coefficients.specs.Working.{joined, in_blocks}
+use Rattle.coefficients.proofs.Blocks.{block_again, length-joined}
 use Rattle.coefficients.proofs.sums.join_blocks.Goals as goal
 
-pub loop-at-init : goal.loop-at-init
-loop-at-init c = let a = c.args in
-    walk_starts (joined a.up a.half) (a.half + a.half) a.v.now
+pub loop-block-init : goal.loop-block-init
+unfolding in_blocks
+loop-block-init c = refl
 
-pub loop-at-preserved : goal.loop-at-preserved
-loop-at-preserved c = let l = c.loop-at in
+pub loop-block-preserved : goal.loop-block-preserved
+loop-block-preserved c = let l = c.loop-block in
     let a = c.args in
-    let m = c.join_halves in
-    walk_again (joined a.up a.half) (a.half + a.half) a.v.now l.v l.at l.invariant (length-joined a.up a.half) (omega (arith, l.invariant.long)) m.new.v m.auto.v m.ensures
-
-pub returns : goal.returns
-returns c = let l = c.loop-at in
-    let a = c.args in
-    walk_ends (joined a.up a.half) (a.half + a.half) a.v.now l.v l.at l.invariant (omega (arith, c.requires)) (omega (arith, l.invariant.long))
+    block_again (joined a.up a.half) (a.half + a.half) (length-joined a.up a.half) a.v.now l.v l.block l.invariant c.join_halves.new.v c.join_halves.ensures

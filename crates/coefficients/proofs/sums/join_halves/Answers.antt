@@ -5,10 +5,10 @@ use Rattle.coefficients.proofs.sums.join_halves.Goals as goal
 
 pub returns-then-up : goal.returns-then-up
 returns-then-up c = let a = c.args in
-    let r = c.add_rows in
-    joined_up a.half a.v.now r.new.v c.requires r.ensures ∙ ap (λ (b : Bool). joined b a.half a.v.now) (sym c.if-up.true)
+    let s = c.split_at_mut-lower in
+    joined_up a.half a.v.now c.requires s.result.0.now s.result.1.now s.ensures.front s.ensures.back _ c.add_row.ensures ∙ ap (λ (b : Bool). joined b a.half a.v.now) (sym c.if-up.true)
 
 pub returns-else-up : goal.returns-else-up
 returns-else-up c = let a = c.args in
-    let r = c.add_rows-else-up in
-    joined_down a.half a.v.now r.new.v c.requires r.ensures ∙ ap (λ (b : Bool). joined b a.half a.v.now) (sym c.if-up.false)
+    let s = c.split_at_mut-lower in
+    joined_down a.half a.v.now c.requires s.result.0.now s.result.1.now s.ensures.front s.ensures.back _ c.add_row-else-up.ensures ∙ ap (λ (b : Bool). joined b a.half a.v.now) (sym c.if-up.false)

@@ -18,11 +18,15 @@ returns-in-Refused c =
     let r = c.in-Refused.refusal in
     first_refuses compared_says (file_checks 0 f) (file_checks 1 g ++ work_checks (wires_of f) (wires_of g) (length a.work.now)) (verdict_values (verdict (wires_of f) (circuit (gates_of f)) (circuit (gates_of g)))) (differences (wires_of f) (coefficient (wires_of f) (gates_of f)) (coefficient (wires_of f) (gates_of g))) a.work.now (Err r) r refl (summarise_refuses 0 f _ _ c.summarise.result _ _ c.summarise.ensures r c.in-Refused.is).refuses
 
-pub judge_summaries-requires : goal.judge_summaries-requires
-judge_summaries-requires c =
+pub invariant_of-judge_summaries : goal.invariant_of-judge_summaries
+invariant_of-judge_summaries c =
     let first = file_sums _ c.args.first.now _ _ c.summarise.result _ _ c.summarise.ensures c.empty-first_row.ensures refl c.in-Circuit.wires c.in-Circuit.gates c.in-Circuit.is in
+    record { holds = first.holds }
+
+pub invariant_of-judge_summaries-in-Circuit-summarise : goal.invariant_of-judge_summaries-in-Circuit-summarise
+invariant_of-judge_summaries-in-Circuit-summarise c =
     let second = file_sums _ c.args.second.now _ _ c.summarise-2.result _ _ c.summarise-2.ensures c.empty-second_row.ensures refl c.in-Circuit-summarise.width c.in-Circuit-summarise.gates c.in-Circuit-summarise.is in
-    (first.holds, second.holds)
+    record { holds = second.holds }
 
 pub returns-in-Refused-summarise : goal.returns-in-Refused-summarise
 returns-in-Refused-summarise c =

@@ -24,11 +24,15 @@ overflow_add-n c =
     let table = table_sums c.args.n c.args.table.now _ _ c.summarise_ideal.result _ _ c.summarise_ideal.ensures c.empty-ideal_row.ensures refl c.in_default.is in
     omega (arith, table.holds.few)
 
-pub judge_summaries-requires : goal.judge_summaries-requires
-judge_summaries-requires c =
-    let table = table_sums c.args.n c.args.table.now _ _ c.summarise_ideal.result _ _ c.summarise_ideal.ensures c.empty-ideal_row.ensures refl c.in_default.is in
+pub invariant_of-judge_summaries : goal.invariant_of-judge_summaries
+invariant_of-judge_summaries c =
     let file = file_sums _ c.args.file.now _ _ c.summarise.result _ _ c.summarise.ensures c.empty-row.ensures refl c.in-Circuit.wires c.in-Circuit.gates c.in-Circuit.is in
-    (file.holds, table.holds)
+    record { holds = file.holds }
+
+pub invariant_of-judge_summaries-in-Circuit : goal.invariant_of-judge_summaries-in-Circuit
+invariant_of-judge_summaries-in-Circuit c =
+    let table = table_sums c.args.n c.args.table.now _ _ c.summarise_ideal.result _ _ c.summarise_ideal.ensures c.empty-ideal_row.ensures refl c.in_default.is in
+    record { holds = table.holds }
 
 pub returns-in-Refused-summarise : goal.returns-in-Refused-summarise
 returns-in-Refused-summarise c =

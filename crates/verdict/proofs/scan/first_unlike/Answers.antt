@@ -1,14 +1,13 @@
-use Rattle.std.proofs.Common.{arith}
-use Rattle.coefficients.specs.Working.{entry}
-use Rattle.numbers.proofs.Search.{unlike_least}
+-- The place is that of the first pair of the two rows whose numbers differ.
+use Rattle.std.proofs.Common.{rules, tests, take, ◌∙◌}
+use Rattle.std.proofs.lemmas.Iterator.{YieldsList-from_slice, YieldsList-from_zip}
+use Rattle.std.proofs.lemmas.Iterator.Search.{position_from_yields_List}
+use Rattle.verdict.proofs.Pairs.{differ, first_of_pairs}
 use Rattle.verdict.proofs.scan.first_unlike.Goals as goal
 
-pub returns-then-x-y : goal.returns-then-x-y
-returns-then-x-y c = let l = c.loop-i in
-    let s = c.args in
-    unlike_least (entry s.a.now) (entry s.b.now) s.count l.i (record { within = l.invariant.1; before = l.invariant.0; there = λ h. c.if-x-y.true })
-
 pub returns : goal.returns
-returns c = let l = c.loop-i in
-    let s = c.args in
-    unlike_least (entry s.a.now) (entry s.b.now) s.count l.i (record { within = l.invariant.1; before = l.invariant.0; there = λ h. absurd (omega arith) })
+returns c = let a = c.args in
+    c.unwrap_or.ensures
+    ∙ first_of_pairs a.a.now a.b.now a.count c.requires.0 c.requires.1 c.position.result
+    (position_from_yields_List differ c.position.new.self _ c.position.result c.position.ensures.ran
+    (YieldsList-from_zip (YieldsList-from_slice (take a.count a.a.now) (cc)) (YieldsList-from_slice (take a.count a.b.now) (cc))) (λ x b q k. search (rules, tests)))

@@ -1,6 +1,5 @@
-use Rattle.std.proofs.Common.{ℕ, ◌^◌, ◌++◌, drop, sym, ap, ◌∙◌, arith}
+use Rattle.std.proofs.Common.{ℕ, ◌^◌, ◌++◌, drop, sym, ap, ap₂, ◌∙◌, arith, length-take-le}
 use Rattle.numbers.specs.Sums.{list}
-use Rattle.numbers.specs.Turn.{difference}
 use Rattle.numbers.proofs.Lists.{length-list}
 use Rattle.numbers.proofs.Powers.{small_power}
 use Rattle.verdict.specs.Verdicts.{differences}
@@ -8,25 +7,30 @@ use Rattle.verdict.specs.Judging.{verdict_values}
 use Rattle.coefficients.specs.Working.{entry}
 use Rattle.verdict.specs.Working.{summary, judged}
 use Rattle.verdict.proofs.Answers.{wires_refused, work_refused, work_enough}
+use Rattle.verdict.proofs.Judging.{less}
 use Rattle.verdict.proofs.summaries.judge_summaries.Goals as goal
 
-pub returns-then-wires-width : goal.returns-then-wires-width
-returns-then-wires-width c =
-    let a = c.args in
-    wires_refused a.wires a.width (verdict_values (judged a.wires (summary a.first.now a.firsts.now) (summary a.second.now a.seconds.now))) (differences a.wires (entry a.first.now) (entry a.second.now)) a.work.now (omega (arith, c.if-wires-width.true)) c.by.result c.by.ensures
+pub returns-then-first-second : goal.returns-then-first-second
+returns-then-first-second c =
+    let x = c.args.first.now in
+    let y = c.args.second.now in
+    wires_refused x.wires y.wires (verdict_values (judged x.wires (summary x.row.now x.ends.now) (summary y.row.now y.ends.now))) (differences x.wires (entry x.row.now) (entry y.row.now)) c.args.work.now (omega (arith, c.if-first-second.true)) c.by.result c.by.ensures
 
 pub returns-then-work-size : goal.returns-then-work-size
 returns-then-work-size c =
-    let a = c.args in
-    let size = small_power a.wires c.power-size.result c.requires.0.few c.power-size.ensures in
-    work_refused a.wires a.width (verdict_values (judged a.wires (summary a.first.now a.firsts.now) (summary a.second.now a.seconds.now))) (differences a.wires (entry a.first.now) (entry a.second.now)) a.work.now (omega (arith, c.if-wires-width.false)) (omega (arith, size, c.if-work-size.true)) c.by-then-work-size.result c.by-then-work-size.ensures
+    let x = c.args.first.now in
+    let y = c.args.second.now in
+    let size = small_power x.wires c.power-size.result x.holds.few c.power-size.ensures in
+    work_refused x.wires y.wires (verdict_values (judged x.wires (summary x.row.now x.ends.now) (summary y.row.now y.ends.now))) (differences x.wires (entry x.row.now) (entry y.row.now)) c.args.work.now (omega (arith, c.if-first-second.false)) (omega (arith, size, c.if-work-size.true)) c.by-then-work-size.result c.by-then-work-size.ensures
 
 pub returns : goal.returns
 unfolding differences
 returns c =
-    let a = c.args in
-    let size = small_power a.wires c.power-size.result c.requires.0.few c.power-size.ensures in
-    let less : ℕ → ℕ = λ s. difference (entry a.first.now s) (entry a.second.now s) in
-    work_enough a.wires a.width (verdict_values (judged a.wires (summary a.first.now a.firsts.now) (summary a.second.now a.seconds.now))) (list (2 ^ a.wires) less) a.work.now (omega (arith, c.if-wires-width.false))
+    let x = c.args.first.now in
+    let y = c.args.second.now in
+    let work = c.args.work.now in
+    let size = small_power x.wires c.power-size.result x.holds.few c.power-size.ensures in
+    let enough = length-take-le c.power-size.result work c.if-work-size.false in
+    work_enough x.wires y.wires (verdict_values (judged x.wires (summary x.row.now x.ends.now) (summary y.row.now y.ends.now))) (list (2 ^ x.wires) (less x.row.now y.row.now)) work (omega (arith, c.if-first-second.false))
     (omega (arith, size, c.if-work-size.false)) c.scan.result (ap verdict_values c.scan.ensures) _
-    (c.subtract.ensures ∙ ap (λ (n : ℕ). list n less ++ drop n a.work.now) size ∙ ap (λ (n : ℕ). list (2 ^ a.wires) less ++ drop n a.work.now) (sym (length-list (2 ^ a.wires) less)))
+    (ap₂ ◌++◌ (c.subtract.ensures ∙ ap (λ (n : ℕ). list n (less x.row.now y.row.now)) (enough ∙ size)) (ap (λ (n : ℕ). drop n work) (size ∙ sym (length-list (2 ^ x.wires) (less x.row.now y.row.now)))))
