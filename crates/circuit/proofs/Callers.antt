@@ -1,7 +1,7 @@
 -- What a caller of `read` knows when it answers and when it refuses; what a file that passes is; and that no two answers say the same.
 use Prim.Native.Nat.{ℕ, ◌+◌, ◌*◌, ◌^◌, ◌≤◌}
 use native.Mathlib.Omega.{arith}
-use mathlib.Core.Path.{◌≡◌, ap, subst}
+use mathlib.Core.Path.{◌≡◌, ap, subst, ◌∙◌}
 use mathlib.Core.List.{List, [], ◌∷◌}
 use lib.ListN.{length}
 use lib.Pow.{pow_mono}
@@ -66,6 +66,11 @@ pub record Answered (s : ℕ) (f : List ℕ) (w g : ℕ) : Type 0 where
   pub file : GoodFile f
   pub wires : w ≡ wires_of f
   pub count : g ≡ count_of f
+
+pub circuit_answers : (s : ℕ) {f g : List ℕ} → g ≡ f → AllFail (file_checks 0 g) → (w n : ℕ) → w ≡ wires_of g → n ≡ count_of g → Answered s f w n
+circuit_answers s {f} {g} e h w n p q =
+    let passes = passes_anywhere 0 s f (circuit_passes e h) in
+    record { passes = passes; file = good_file s f passes; wires = p ∙ ap wires_of e; count = q ∙ ap count_of e }
 
 module _ (s : ℕ) (f : List ℕ) (r : Result Header Refusal) (says : ReadsSide s f r) where
   pub read_answers : (h : Header) → r ≡ Ok h → Answered s f h.wires h.gates

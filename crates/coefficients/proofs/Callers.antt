@@ -49,9 +49,9 @@ module _ (side : ℕ) (f row₀ ends₀ : List ℕ) (answer : Result Header Refu
   abbrev said : List ℕ
   said = wires_of f ∷ count_of f ∷ []
 
-  pub summarise_answers : (w g : ℕ) → answer ≡ Circuit w g → Summed file_outcome (coefficients (wires_of f) (gates_of f)) (listed_ends (wires_of f) (gates_of f)) row₀ ends₀ row₁ ends₁ × (w ≡ wires_of f) × (g ≡ count_of f)
-  summarise_answers w g e =
-      let r = answers reading_says file_outcome said (coefficients (wires_of f) (gates_of f)) (listed_ends (wires_of f) (gates_of f)) row₀ ends₀ answer row₁ ends₁ s (w ∷ g ∷ []) (ap reading_says e) in
+  pub summarise_answers : (h : Header) → answer ≡ Ok h → Summed file_outcome (coefficients (wires_of f) (gates_of f)) (listed_ends (wires_of f) (gates_of f)) row₀ ends₀ row₁ ends₁ × (h.wires ≡ wires_of f) × (h.gates ≡ count_of f)
+  summarise_answers h e =
+      let r = answers reading_says file_outcome said (coefficients (wires_of f) (gates_of f)) (listed_ends (wires_of f) (gates_of f)) row₀ ends₀ answer row₁ ends₁ s (h.wires ∷ h.gates ∷ []) (ap reading_says e) in
       (r.0, cc r.1, cc r.1)
 
   pub summarise_refuses : (r : Refusal) → answer ≡ Err r → Unsummed file_outcome r row₀ ends₀ row₁ ends₁

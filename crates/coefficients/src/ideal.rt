@@ -8,16 +8,19 @@ ghost use Rattle.coefficients.specs.Summaries.{SummarisesIdeal};
 
 use crate::sums::gather;
 use crate::{STARTS, empty};
-use table::Checked;
+use refusal::Refusal;
 
 // The ideal's coefficients and the ends of its listed starts, each at the front of a slice where they fit, or the
 // refusal of the table. Below wire n's own set there are no coefficients, and the ideal ends as it starts.
-pub fn summarise_ideal(n: u8, table: &[u8], row: &mut [u16], ends: &mut [u16]) -> Checked
+pub fn summarise_ideal(
+    n: u8,
+    table: &[u8],
+    row: &mut [u16],
+    ends: &mut [u16],
+) -> Result<(), Refusal>
     ensures { SummarisesIdeal n table.now row.old ends.old result row.new ends.new }
 {
-    if let Checked::Refused(refusal) = table::check(n, table) {
-        return Checked::Refused(refusal);
-    }
+    table::check(n, table)?;
     let half = numbers::power(n);
     let size = half + half;
     let mut ideal = empty();
@@ -25,7 +28,7 @@ pub fn summarise_ideal(n: u8, table: &[u8], row: &mut [u16], ends: &mut [u16]) -
     put(&ideal[..size], row);
     let starts = listed_starts();
     put(&starts[..n as usize + 2], ends);
-    Checked::Good
+    Ok(())
 }
 
 // Start 0, then each wire's own.

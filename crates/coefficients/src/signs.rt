@@ -1,21 +1,20 @@
 // A phase of a on a flipped mask adds a constant a and minus a on the mask (02 §12): what each mask has, and the constant, gate by gate.
 ghost use Rattle.std.specs.Prelude.{◌≡◌, ◌*◌, ◌%◌};
-ghost use Rattle.refusal.specs.Checks.{outcome, passed};
-ghost use Rattle.circuit.specs.File.{count_of, gates_of, file_checks};
+ghost use Rattle.circuit.specs.File.{gates_of};
 ghost use Rattle.circuit.specs.Working.{walked};
 ghost use Rattle.running.specs.Working.{At, numbers_after, met, met_by};
 ghost use Rattle.coefficients.specs.Working.{signed_by, sign_met, turned_of, sign_step};
 
-use circuit::Gate;
+use circuit::{Circuit, Gate};
 
 // The angle added, wrapping, or taken off where there is a flip.
 fn signed_sum(flip: u16, sum: u16, angle: u16) -> u16
     ensures { result ≡ signed_by flip sum angle }
 {
     if flip == 0 {
-        return std::num::wrapping_add_u16(sum, angle);
+        return sum.wrapping_add(angle);
     }
-    std::num::wrapping_sub_u16(sum, angle)
+    sum.wrapping_sub(angle)
 }
 
 // What an angle makes of its mask's sum.
@@ -59,17 +58,13 @@ fn add_gate(gate: Gate, held: &mut [u16], signed: &mut [u16]) -> u16
     }
 }
 
-// All gates of a good file; answered is the constant.
-pub(crate) fn add_gates(file: &[u8], gates: usize, held: &mut [u16], signed: &mut [u16]) -> u16
-    requires { (outcome (file_checks 0 file.now) ≡ passed) × (gates ≡ count_of file.now) }
-    ensures { (held.new, signed.new, result) ≡ walked sign_step (gates_of file.now) (held.old, signed.old, 0) }
+// All gates of a circuit; answered is the constant.
+pub(crate) fn add_gates(circuit: &Circuit, held: &mut [u16], signed: &mut [u16]) -> u16
+    ensures { (held.new, signed.new, result) ≡ walked sign_step (gates_of circuit.now.file.now) (held.old, signed.old, 0) }
 {
     let mut constant: u16 = 0;
-    let mut i: usize = 0;
-    while i < gates {
-        let gate = circuit::good_gate(file, i);
-        constant = std::num::wrapping_add_u16(constant, add_gate(gate, held, signed));
-        i += 1;
+    for gate in circuit.gates() {
+        constant = constant.wrapping_add(add_gate(gate, held, signed));
     }
     constant
 }

@@ -10,25 +10,30 @@ use crate::empty;
 use crate::signs::add_gates;
 use crate::sums::gather;
 use crate::weights::weigh;
-use circuit::Reading;
+use circuit::{Circuit, Header};
+use refusal::Refusal;
 
 // A file's wires and gate count as the reader says them, its circuit's coefficients and the ends of its listed starts,
 // each at the front of a slice where they fit, or the refusal of the file.
-pub fn summarise(file: &[u8], side: u8, row: &mut [u16], ends: &mut [u16]) -> Reading
+pub fn summarise(
+    file: &[u8],
+    side: u8,
+    row: &mut [u16],
+    ends: &mut [u16],
+) -> Result<Header, Refusal>
     ensures { Summarises side file.now row.old ends.old result row.new ends.new }
 {
-    match circuit::read_side(file, side) {
-        Reading::Refused(refusal) => Reading::Refused(refusal),
-        Reading::Circuit { wires, gates } => {
-            let mut held = running::own_held();
-            let mut signed = empty();
-            let constant = add_gates(file, gates, &mut held, &mut signed);
-            let size = numbers::power(wires);
-            put_coefficients(&mut signed[..size], constant, row);
-            put_ends(&held[..wires as usize], ends);
-            Reading::Circuit { wires, gates }
-        }
-    }
+    let circuit = Circuit::read(file, side)?;
+    let wires = circuit.wires();
+    let mut held = running::own_held();
+    let mut signed = empty();
+    let constant = add_gates(&circuit, &mut held, &mut signed);
+    put_coefficients(&mut signed[..numbers::power(wires)], constant, row);
+    put_ends(&held[..wires as usize], ends);
+    Ok(Header {
+        wires,
+        gates: circuit.gate_count(),
+    })
 }
 
 // From what each mask has to the coefficient of each set, and the constant at the empty one.

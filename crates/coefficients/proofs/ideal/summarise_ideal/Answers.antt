@@ -24,34 +24,34 @@ fits n h k e = omega (arith, half_is n h k e, pow_mono {i = n} {j = 8} k)
 
 pub overflow_add-size : goal.overflow_add-size
 overflow_add-size c =
-    let n8 = few c.args.n c.args.table.now c.check.result c.check.ensures c.in_default.is in
+    let n8 = few c.args.n c.args.table.now c.check.result c.check.ensures c.in_ok-check.was in
     omega (arith, fits c.args.n c.power-half.result n8 c.power-half.ensures)
 
 pub offset_bounds-ideal-half : goal.offset_bounds-ideal-half
 offset_bounds-ideal-half c =
-    let n8 = few c.args.n c.args.table.now c.check.result c.check.ensures c.in_default.is in
+    let n8 = few c.args.n c.args.table.now c.check.result c.check.ensures c.in_ok-check.was in
     omega (arith, fits c.args.n c.power-half.result n8 c.power-half.ensures)
 
 pub slice_bounds-ideal-end : goal.slice_bounds-ideal-end
 slice_bounds-ideal-end c =
-    let n8 = few c.args.n c.args.table.now c.check.result c.check.ensures c.in_default.is in
+    let n8 = few c.args.n c.args.table.now c.check.result c.check.ensures c.in_ok-check.was in
     omega (arith, fits c.args.n c.power-half.result n8 c.power-half.ensures, ap length c.empty-ideal.ensures)
 
 pub put_ideal-requires : goal.put_ideal-requires
 put_ideal-requires c =
-    let n8 = few c.args.n c.args.table.now c.check.result c.check.ensures c.in_default.is in
+    let n8 = few c.args.n c.args.table.now c.check.result c.check.ensures c.in_ok-check.was in
     let h = c.power-half.result in
     let h512 = fits c.args.n h n8 c.power-half.ensures in
     omega (arith, h512, mid_len h (h + h) c.empty-ideal.result (omega (arith, h512, ap length c.empty-ideal.ensures)))
 
 pub slice_bounds-starts-end : goal.slice_bounds-starts-end
 slice_bounds-starts-end c =
-    let n8 = few c.args.n c.args.table.now c.check.result c.check.ensures c.in_default.is in
+    let n8 = few c.args.n c.args.table.now c.check.result c.check.ensures c.in_ok-check.was in
     omega (arith, n8, ap length c.listed_starts-starts.ensures)
 
 pub slice_bounds-put-end-2 : goal.slice_bounds-put-end-2
 slice_bounds-put-end-2 c =
-    let n8 = few c.args.n c.args.table.now c.check.result c.check.ensures c.in_default.is in
+    let n8 = few c.args.n c.args.table.now c.check.result c.check.ensures c.in_ok-check.was in
     sym (length-take-le (c.args.n + 2) c.listed_starts-starts.result (omega (arith, n8, ap length c.listed_starts-starts.ensures)))
 
 pub returns : goal.returns
@@ -60,8 +60,8 @@ returns c =
     let f = value_at a.table.now in
     let h = c.power-half.result in
     let row = c.empty-ideal in
-    let good = check_answers a.n a.table.now c.check.result c.check.ensures c.in_default.is in
-    let n8 = few a.n a.table.now c.check.result c.check.ensures c.in_default.is in
+    let good = check_answers a.n a.table.now c.check.result c.check.ensures c.in_ok-check.was in
+    let n8 = few a.n a.table.now c.check.result c.check.ensures c.in_ok-check.was in
     let half = half_is a.n h n8 c.power-half.ensures in
     let h512 = fits a.n h n8 c.power-half.ensures in
     let twice : h + h - h ≡ h = omega arith in

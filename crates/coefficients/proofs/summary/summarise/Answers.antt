@@ -1,54 +1,56 @@
-use Rattle.std.proofs.Common.{ℕ, [], ◌∷◌, sym, ◌∙◌, ap₂, arith}
+use Rattle.std.proofs.Common.{◌≡◌, ℕ, [], ◌∷◌, sym, ap, ◌∙◌, ap₂, subst, arith}
 use Rattle.refusal.specs.Checks.{outcome}
 use Rattle.refusal.specs.Contract.{values}
+use Rattle.refusal.proofs.Contracts.{handed_on}
 use Rattle.circuit.specs.File.{wires_of, count_of, gates_of, file_checks, reading_says}
-use Rattle.circuit.proofs.Callers.{passes_anywhere, read_answers}
+use Rattle.circuit.specs.Working.{walked}
+use Rattle.circuit.proofs.Callers.{circuit_answers}
 use Rattle.coefficients.specs.Coefficients.{coefficients, listed_ends}
-use Rattle.coefficients.proofs.Summaries.{file_walked, row_long, size_fits, part_long, coefficients_put, wires_held, part_held, ends_put}
-use Rattle.coefficients.proofs.Answers.{sums_passed}
+use Rattle.coefficients.specs.Working.{sign_step}
+use Rattle.coefficients.proofs.Summaries.{Walked, file_walked, row_long, size_fits, part_long, coefficients_put, wires_held, part_held, ends_put}
+use Rattle.coefficients.proofs.Answers.{sums_refused, sums_passed}
 use Rattle.coefficients.proofs.summary.summarise.Goals as goal
+use Rattle.coefficients.proofs.summary.summarise.Goals.{After-add_gates-constant}
 
-pub add_gates-constant-requires : goal.add_gates-constant-requires
-add_gates-constant-requires c =
+-- what is known once the gates are walked
+walk : (c : After-add_gates-constant) → Walked c.args.side c.args.file.now c.wires-wires.result (count_of c.args.file.now) c.add_gates-constant.new.held c.add_gates-constant.new.signed c.add_gates-constant.result
+walk c =
     let a = c.args in
-    let read = read_answers a.side a.file.now c.read_side.result c.read_side.ensures c.in-Circuit.wires c.in-Circuit.gates c.in-Circuit.is in
-    (passes_anywhere a.side 0 a.file.now read.passes, read.count)
+    let i = c.in_ok-circuit in
+    let read = circuit_answers a.side i.ensures i.circuit.good c.wires-wires.result (count_of a.file.now) c.wires-wires.ensures (ap count_of (sym i.ensures)) in
+    file_walked a.side a.file.now c.wires-wires.result (count_of a.file.now) read (λ j. (c.type_inv.file j).fits) c.own_held-held.result c.empty-signed.result _ _ _ c.own_held-held.ensures c.empty-signed.ensures
+    (subst (λ f. (c.add_gates-constant.new.held, c.add_gates-constant.new.signed, c.add_gates-constant.result) ≡ walked sign_step (gates_of f) (c.own_held-held.result, c.empty-signed.result, 0)) i.ensures c.add_gates-constant.ensures)
+
+pub returns-in_err-circuit : goal.returns-in_err-circuit
+returns-in_err-circuit c =
+    let a = c.args in
+    let f = a.file.now in
+    sums_refused reading_says (outcome (file_checks a.side f)) (wires_of f ∷ count_of f ∷ []) (coefficients (wires_of f) (gates_of f)) (listed_ends (wires_of f) (gates_of f)) a.row.now a.ends.now _ _
+    (ap reading_says (handed_on c.from_residual.ensures.1)) c.in_err-circuit.ensures
 
 pub slice_bounds-signed-end : goal.slice_bounds-signed-end
 slice_bounds-signed-end c =
-    let a = c.args in
-    let read = read_answers a.side a.file.now c.read_side.result c.read_side.ensures c.in-Circuit.wires c.in-Circuit.gates c.in-Circuit.is in
-    let walk = file_walked a.side a.file.now c.in-Circuit.wires c.in-Circuit.gates read (λ j. (c.type_inv.file j).fits) c.own_held-held.result c.empty-signed.result _ _ _ c.own_held-held.ensures c.empty-signed.ensures c.add_gates-constant.ensures in
-    omega (arith, size_fits walk c.power-size.result c.power-size.ensures, row_long walk)
+    let w = walk (goal.at.slice_bounds-signed-end c).After-add_gates-constant in
+    omega (arith, size_fits w c.power.result c.power.ensures, row_long w)
 
 pub slice_bounds-put_coefficients-end : goal.slice_bounds-put_coefficients-end
 slice_bounds-put_coefficients-end c =
-    let a = c.args in
-    let read = read_answers a.side a.file.now c.read_side.result c.read_side.ensures c.in-Circuit.wires c.in-Circuit.gates c.in-Circuit.is in
-    let walk = file_walked a.side a.file.now c.in-Circuit.wires c.in-Circuit.gates read (λ j. (c.type_inv.file j).fits) c.own_held-held.result c.empty-signed.result _ _ _ c.own_held-held.ensures c.empty-signed.ensures c.add_gates-constant.ensures in
-    sym (part_long walk c.power-size.result c.power-size.ensures)
+    sym (part_long (walk (goal.at.slice_bounds-put_coefficients-end c).After-add_gates-constant) c.power.result c.power.ensures)
 
 pub slice_bounds-held-end : goal.slice_bounds-held-end
 slice_bounds-held-end c =
-    let a = c.args in
-    let read = read_answers a.side a.file.now c.read_side.result c.read_side.ensures c.in-Circuit.wires c.in-Circuit.gates c.in-Circuit.is in
-    let walk = file_walked a.side a.file.now c.in-Circuit.wires c.in-Circuit.gates read (λ j. (c.type_inv.file j).fits) c.own_held-held.result c.empty-signed.result _ _ _ c.own_held-held.ensures c.empty-signed.ensures c.add_gates-constant.ensures in
-    omega (arith, wires_held walk, walk.read.wires, walk.read.file.few)
+    let w = walk (goal.at.slice_bounds-held-end c).After-add_gates-constant in
+    omega (arith, wires_held w, w.read.wires, w.read.file.few)
 
 pub slice_bounds-put_ends-end : goal.slice_bounds-put_ends-end
-slice_bounds-put_ends-end c =
-    let a = c.args in
-    let read = read_answers a.side a.file.now c.read_side.result c.read_side.ensures c.in-Circuit.wires c.in-Circuit.gates c.in-Circuit.is in
-    let walk = file_walked a.side a.file.now c.in-Circuit.wires c.in-Circuit.gates read (λ j. (c.type_inv.file j).fits) c.own_held-held.result c.empty-signed.result _ _ _ c.own_held-held.ensures c.empty-signed.ensures c.add_gates-constant.ensures in
-    sym (part_held walk)
+slice_bounds-put_ends-end c = sym (part_held (walk (goal.at.slice_bounds-put_ends-end c).After-add_gates-constant))
 
-pub returns-in-Circuit : goal.returns-in-Circuit
-returns-in-Circuit c =
+pub returns : goal.returns
+returns c =
     let a = c.args in
     let f = a.file.now in
-    let read = read_answers a.side a.file.now c.read_side.result c.read_side.ensures c.in-Circuit.wires c.in-Circuit.gates c.in-Circuit.is in
-    let walk = file_walked a.side a.file.now c.in-Circuit.wires c.in-Circuit.gates read (λ j. (c.type_inv.file j).fits) c.own_held-held.result c.empty-signed.result _ _ _ c.own_held-held.ensures c.empty-signed.ensures c.add_gates-constant.ensures in
+    let w = walk (goal.at.returns c).After-add_gates-constant in
     sums_passed reading_says (outcome (file_checks a.side f)) (wires_of f ∷ count_of f ∷ []) (coefficients (wires_of f) (gates_of f)) (listed_ends (wires_of f) (gates_of f)) a.row.now a.ends.now _ _ _
-    (ap₂ (λ (w n : ℕ). values (w ∷ n ∷ [])) walk.read.wires walk.read.count) walk.read.passes
-    (coefficients_put walk c.power-size.result c.power-size.ensures a.row.now _ (λ n q. c.put_coefficients.ensures n (part_long walk c.power-size.result c.power-size.ensures ∙ q)))
-    (ends_put walk a.ends.now _ c.put_ends.ensures)
+    (ap₂ (λ (m n : ℕ). values (m ∷ n ∷ [])) w.read.wires (c.gate_count.ensures ∙ ap count_of c.in_ok-circuit.ensures)) w.read.passes
+    (coefficients_put w c.power.result c.power.ensures a.row.now _ (λ n q. c.put_coefficients.ensures n (part_long w c.power.result c.power.ensures ∙ q)))
+    (ends_put w a.ends.now _ c.put_ends.ensures)
