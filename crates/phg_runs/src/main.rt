@@ -16,22 +16,22 @@ fn main(rt: HostRuntime) -> io::Result<()> {
 }
 
 // Prints a line and runs it.
-fn run(rt: &(impl Files + Input + Print), line: &[u8]) -> io::Result<()> {
+fn run(rt: &(impl Files + Input + Print), text: &[u8]) -> io::Result<()> {
     print!(rt; "$ ")?;
-    rt.write_all(line)?;
-    let mut words = [0u8; 4096];
-    let n = separate(line, &mut words);
-    command::call(rt, &words[..n], rt)
+    rt.write_all(text)?;
+    let mut line = [0u8; 4096];
+    let n = separate(text, &mut line);
+    command::call(rt, &line[..n], rt)
 }
 
 // Copies a line without its end, a byte 0 for each blank, and answers its length.
-fn separate(line: &[u8], words: &mut [u8]) -> usize
-    ensures within { result ≤ length words.new }
-    ensures front { result ≡ length (take result words.new) }
+fn separate(text: &[u8], line: &mut [u8]) -> usize
+    ensures within { result ≤ length line.new }
+    ensures front { result ≡ length (take result line.new) }
 {
-    let line = line.strip_suffix(b"\n").unwrap_or(line);
-    for (word_byte, b) in words.iter_mut().zip(line) {
-        *word_byte = if *b == b' ' { 0 } else { *b };
+    let words = text.strip_suffix(b"\n").unwrap_or(text);
+    for (byte, b) in line.iter_mut().zip(words) {
+        *byte = if *b == b' ' { 0 } else { *b };
     }
-    line.len().min(words.len())
+    words.len().min(line.len())
 }
