@@ -27,7 +27,7 @@ pub(crate) fn print_bytes(rt: &impl Print, bytes: &[u8]) -> io::Result<()> {
 
 // Two bytes an entry, the higher first.
 pub(crate) fn print_work(rt: &impl Print, lent: &[u16]) -> io::Result<()>
-    requires { length lent.now ≤ 1100 }
+    requires { length lent.now ≤ WORK }
 {
     let mut bytes = [0; 2 * WORK];
     for (i, entry) in lent.iter().enumerate() {
@@ -39,7 +39,7 @@ pub(crate) fn print_work(rt: &impl Print, lent: &[u16]) -> io::Result<()>
 // The sums in 16 bits each. One that needs more is shown as the nearest that fits, which no
 // spectrum has.
 pub(crate) fn print_sums(rt: &impl Print, sums: &[i32]) -> io::Result<()>
-    requires { length sums.now ≤ 600 }
+    requires { length sums.now ≤ SUMS }
 {
     let mut shown = [0; SUMS];
     for (entry, sum) in shown.iter_mut().zip(sums) {
