@@ -88,26 +88,14 @@ pub struct Request {
 
 impl Request {
     pub(crate) fn of(header: Header) -> Request {
-        let [
-            op,
-            a,
-            b,
-            b_low,
-            room,
-            room_low,
-            first,
-            first_low,
-            second,
-            second_low,
-        ] = header;
         Request {
-            op: numbered(op),
-            named: numbered(op % 16),
-            a,
-            b: u16::from_be_bytes([b, b_low]),
-            room: u16::from_be_bytes([room, room_low]),
-            first: u16::from_be_bytes([first, first_low]),
-            second: u16::from_be_bytes([second, second_low]),
+            op: numbered(header[0]),
+            named: numbered(header[0] % 16),
+            a: header[1],
+            b: u16::from_be_bytes([header[2], header[3]]),
+            room: u16::from_be_bytes([header[4], header[5]]),
+            first: u16::from_be_bytes([header[6], header[7]]),
+            second: u16::from_be_bytes([header[8], header[9]]),
         }
     }
 }
