@@ -1,91 +1,54 @@
 // Slices lent to an operation: what they hold before it, and their bytes after it.
+ghost use Rattle.std.specs.Prelude.{◌≤◌, length};
+
 use crate::print;
 use std::io;
 
-pub type Bytes = [u8; 65536];
+// The most entries of each kind that are lent.
+pub(crate) const WORK: usize = 1100;
 
-pub type Work = [u16; 1100];
-
-pub type Sums = [i32; 600];
+pub(crate) const SUMS: usize = 600;
 
 // What stands at i before the operation.
 fn start(i: usize) -> u8 {
     ((i % 251 * 37 + 11) % 251) as u8
 }
 
-// The first `room` bytes filled.
-pub(crate) fn bytes(room: usize) -> Bytes {
-    let mut lent = [0u8; 65536];
-    if 65536 < room {
-        return lent;
-    }
-    for i in 0..room {
-        lent[i] = start(i);
-    }
-    lent
-}
-
-pub(crate) fn work() -> Work {
-    let mut lent = [0u16; 1100];
-    for i in 0..1100 {
-        lent[i] = start(i) as u16;
-    }
-    lent
-}
-
-pub(crate) fn sums() -> Sums {
-    let mut lent = [0i32; 600];
-    for i in 0..600 {
-        lent[i] = start(i) as i32;
-    }
-    lent
-}
-
-// The two bytes of x as the i-th pair, the higher first.
-fn put(bytes: &mut Bytes, i: usize, x: u16) {
-    if i < 32768 {
-        bytes[2 * i] = (x / 256) as u8;
-        bytes[2 * i + 1] = (x % 256) as u8;
+pub(crate) fn fill<T: From<u8> + Copy>(lent: &mut [T]) {
+    for (i, entry) in lent.iter_mut().enumerate() {
+        *entry = T::from(start(i));
     }
 }
 
-// The first `end` bytes of the entries.
-pub(crate) fn print_work(rt: &impl Print, lent: Work, end: usize) -> io::Result<()> {
-    let mut bytes = [0u8; 65536];
-    for i in 0..1100 {
-        put(&mut bytes, i, lent[i]);
+pub(crate) fn print_bytes(rt: &impl Print, bytes: &[u8]) -> io::Result<()> {
+    print!(rt; ";")?;
+    print::bytes(rt, bytes)
+}
+
+// Two bytes an entry, the higher first.
+pub(crate) fn print_work(rt: &impl Print, lent: &[u16]) -> io::Result<()>
+    requires { length lent.now ≤ WORK }
+{
+    let mut bytes = [0; 2 * WORK];
+    for (i, entry) in lent.iter().enumerate() {
+        bytes[2 * i..2 * i + 2].copy_from_slice(&entry.to_be_bytes());
     }
-    print_bytes(rt, bytes, end)
+    print_bytes(rt, &bytes[..2 * lent.len()])
 }
 
 // The sums in 16 bits each. One that needs more is shown as the nearest that fits, which no
 // spectrum has.
-pub(crate) fn in_16_bits(sums: Sums) -> Work {
-    let mut shown = [0u16; 1100];
-    for i in 0..600 {
-        shown[i] = pattern(sums[i]);
+pub(crate) fn print_sums(rt: &impl Print, sums: &[i32]) -> io::Result<()>
+    requires { length sums.now ≤ SUMS }
+{
+    let mut shown = [0; SUMS];
+    for (entry, sum) in shown.iter_mut().zip(sums) {
+        *entry = pattern(*sum);
     }
-    shown
+    print_work(rt, &shown[..sums.len()])
 }
 
-fn pattern(x: i32) -> u16 {
-    let size = numbers::magnitude(x);
-    if x < 0 {
-        0u16.wrapping_sub(at_most(size, 32768))
-    } else {
-        at_most(size, 32767)
-    }
-}
-
-fn at_most(x: u32, most: u16) -> u16 {
-    if x < most as u32 { x as u16 } else { most }
-}
-
-// The first `end` bytes.
-pub(crate) fn print_bytes(rt: &impl Print, bytes: Bytes, end: usize) -> io::Result<()> {
-    if end <= 65536 {
-        print!(rt; ";")?;
-        return print::bytes(rt, &bytes[0..end]);
-    }
-    Ok(())
+fn pattern(sum: i32) -> u16 {
+    let nearest = sum.clamp(i32::from(i16::MIN), i32::from(i16::MAX));
+    u16::from_be_bytes((nearest as i16).to_be_bytes())
 }

@@ -1,7 +1,7 @@
 // Each operation on a request, and its answer as the paper's values, in the contracts' order.
 use crate::print::{answers, number, refused};
-use crate::request::Request;
-use crate::{lent, print, request};
+use crate::request::{Operation, Request};
+use crate::{lent, print};
 use build::Built;
 use circuit::{Decoded, Gate, Reading};
 use fold::Folded;
@@ -13,34 +13,35 @@ use table::Checked;
 use verdict::{Compared, Verdict};
 
 pub(crate) fn line(rt: &impl Print, r: Request, first: &[u8], second: &[u8]) -> io::Result<()> {
-    print::name(rt, r.op)?;
-    number(rt, r.a as usize)?;
-    number(rt, r.b as usize)?;
-    number(rt, r.room)?;
+    print!(rt; "{:8} {} {} {}", r.named, r.a, r.b, r.room)?;
     print::bytes(rt, first)?;
     print::bytes(rt, second)?;
-    let op = r.op;
-    match op {
-        request::SPECTRUM => spectrum(rt, r.a, r.room, first)?,
-        request::BUILD..=request::ORACLE | request::PRINTOUT..=request::REFUSED => {
-            lend_bytes(rt, op, r.a, r.room, first)?
+    match r.op {
+        Operation::Spectrum => spectrum(rt, r.a, r.room, first)?,
+        Operation::Build
+        | Operation::Fold
+        | Operation::List
+        | Operation::Oracle
+        | Operation::Printout
+        | Operation::Refused => lend_bytes(rt, r.op, r.a, r.room, first)?,
+        Operation::Compare | Operation::Judge => {
+            lend_work(rt, r.op, r.a, r.room, first, second)?
         }
-        request::COMPARE | request::JUDGE => lend_work(rt, op, r.a, r.room, first, second)?,
-        _ => lend_nothing(rt, op, r.a, r.b, first)?,
+        _ => lend_nothing(rt, r.op, r.a, r.b, first)?,
     }
-    print!(rt; "\n")
+    println!(rt)
 }
 
 // A check answers no values.
-fn lend_nothing(rt: &impl Print, op: u8, a: u8, b: u16, first: &[u8]) -> io::Result<()> {
+fn lend_nothing(rt: &impl Print, op: Operation, a: u8, b: u16, first: &[u8]) -> io::Result<()> {
     match op {
-        request::CHECK => match table::check(a, first) {
+        Operation::Check => match table::check(a, first) {
             Checked::Good => print!(rt; ": answers"),
             Checked::Refused(refusal) => refused(rt, refusal),
         },
-        request::VALUE => answers(rt, table::value(first, b as usize) as usize),
-        request::DECODE => decode(rt, a, b as usize, first),
-        request::GATE_AT => gate(rt, circuit::gate_at(first, b as usize)),
+        Operation::Value => answers(rt, table::value(first, b as usize) as usize),
+        Operation::Decode => decode(rt, a, b as usize, first),
+        Operation::GateAt => gate(rt, circuit::gate_at(first, b as usize)),
         _ => read(rt, op, a, b, first),
     }
 }
@@ -48,7 +49,7 @@ fn lend_nothing(rt: &impl Print, op: u8, a: u8, b: u16, first: &[u8]) -> io::Res
 // The version in two bytes, then the gate's four.
 fn decode(rt: &impl Print, w: u8, position: usize, first: &[u8]) -> io::Result<()> {
     if first.len() == 6 {
-        let version = request::number(first[0], first[1]);
+        let version = u16::from_be_bytes([first[0], first[1]]);
         let answer = circuit::decode(version, w, position, first[2], first[3], first[4], first[5]);
         return gate(rt, answer);
     }
@@ -96,16 +97,16 @@ fn reading(side: u8, file: &[u8]) -> Reading {
 }
 
 // Wires and gates; end state and phase; CNOTs, phase gates, score and inverters.
-fn read(rt: &impl Print, op: u8, side: u8, start: u16, file: &[u8]) -> io::Result<()> {
+fn read(rt: &impl Print, op: Operation, side: u8, start: u16, file: &[u8]) -> io::Result<()> {
     match op {
-        request::READ => match reading(side, file) {
+        Operation::Read => match reading(side, file) {
             Reading::Circuit { wires, gates } => {
                 answers(rt, wires as usize)?;
                 number(rt, gates)
             }
             Reading::Refused(refusal) => refused(rt, refusal),
         },
-        request::RUN => match running::run(file, start) {
+        Operation::Run => match running::run(file, start) {
             Ran::End { state, phase } => {
                 answers(rt, state as usize)?;
                 number(rt, phase as usize)
@@ -130,35 +131,35 @@ fn read(rt: &impl Print, op: u8, side: u8, start: u16, file: &[u8]) -> io::Resul
 }
 
 // The number of entries.
-fn spectrum(rt: &impl Print, n: u8, room: usize, table: &[u8]) -> io::Result<()> {
-    let mut out = lent::sums();
-    if 600 < room {
+fn spectrum(rt: &impl Print, n: u8, room: u16, table: &[u8]) -> io::Result<()> {
+    let mut out = [0; lent::SUMS];
+    let Some(out) = out.get_mut(..usize::from(room)) else {
         return Ok(());
-    }
-    match spectrum::spectrum(n, table, &mut out[0..room]) {
+    };
+    lent::fill(out);
+    match spectrum::spectrum(n, table, out) {
         Transformed::Entries(entries) => answers(rt, entries)?,
         Transformed::Refused(refusal) => refused(rt, refusal)?,
     }
-    lent::print_work(rt, lent::in_16_bits(out), room * 2)
+    lent::print_sums(rt, out)
 }
 
-fn lend_bytes(rt: &impl Print, op: u8, a: u8, room: usize, first: &[u8]) -> io::Result<()> {
-    let mut out = lent::bytes(room);
-    if room <= 65536 {
-        write(rt, op, a, first, &mut out[0..room])?;
-        return lent::print_bytes(rt, out, room);
-    }
-    Ok(())
+fn lend_bytes(rt: &impl Print, op: Operation, a: u8, room: u16, first: &[u8]) -> io::Result<()> {
+    let mut out = [0; 65536];
+    let out = &mut out[..usize::from(room)];
+    lent::fill(out);
+    write(rt, op, a, first, out)?;
+    lent::print_bytes(rt, out)
 }
 
 // The length of what is written; after it for a fold the scores before and after.
-fn write(rt: &impl Print, op: u8, a: u8, first: &[u8], out: &mut [u8]) -> io::Result<()> {
+fn write(rt: &impl Print, op: Operation, a: u8, first: &[u8], out: &mut [u8]) -> io::Result<()> {
     match op {
-        request::BUILD => match build::build(a, first, out) {
+        Operation::Build => match build::build(a, first, out) {
             Built::Length(length) => answers(rt, length),
             Built::Refused(refusal) => refused(rt, refusal),
         },
-        request::FOLD => match fold::fold(first, out) {
+        Operation::Fold => match fold::fold(first, out) {
             Folded::File {
                 length,
                 before,
@@ -170,9 +171,9 @@ fn write(rt: &impl Print, op: u8, a: u8, first: &[u8], out: &mut [u8]) -> io::Re
             }
             Folded::Refused(refusal) => refused(rt, refusal),
         },
-        request::LIST => text(rt, listing::list(first, a == 1, out)),
-        request::ORACLE => text(rt, oracle_listing::oracle_listing(first, out)),
-        request::PRINTOUT => text(rt, oracle_listing::printout(first, out)),
+        Operation::List => text(rt, listing::list(first, a == 1, out)),
+        Operation::Oracle => text(rt, oracle_listing::oracle_listing(first, out)),
+        Operation::Printout => text(rt, oracle_listing::printout(first, out)),
         _ => text(rt, listing::refused_line(a, out)),
     }
 }
@@ -186,30 +187,31 @@ fn text(rt: &impl Print, answer: Listed) -> io::Result<()> {
 
 fn lend_work(
     rt: &impl Print,
-    op: u8,
+    op: Operation,
     a: u8,
-    room: usize,
+    room: u16,
     first: &[u8],
     second: &[u8],
 ) -> io::Result<()> {
-    let mut work = lent::work();
-    if room <= 1100 {
-        settle(rt, op, a, first, second, &mut work[0..room])?;
-        return lent::print_work(rt, work, room * 2);
-    }
-    Ok(())
+    let mut work = [0; lent::WORK];
+    let Some(work) = work.get_mut(..usize::from(room)) else {
+        return Ok(());
+    };
+    lent::fill(work);
+    settle(rt, op, a, first, second, work)?;
+    lent::print_work(rt, work)
 }
 
 fn settle(
     rt: &impl Print,
-    op: u8,
+    op: Operation,
     a: u8,
     first: &[u8],
     second: &[u8],
     work: &mut [u16],
 ) -> io::Result<()> {
     match op {
-        request::COMPARE => verdict(rt, verdict::compare(first, second, work)),
+        Operation::Compare => verdict(rt, verdict::compare(first, second, work)),
         _ => verdict(rt, verdict::judge(a, first, second, work)),
     }
 }

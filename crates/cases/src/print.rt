@@ -1,16 +1,7 @@
 // The words of a line.
-use crate::request::Tally;
+use crate::request::{OPERATIONS, Tally};
 use refusal::Refusal;
 use std::io;
-
-// Eight letters for each operation, in the order of their numbers.
-const NAMES: [u8; 128] =
-    *b"spectrumcheck   value   decode  gate_at read    run     count   build   fold    list    oracle  compare judge   printoutrefused ";
-
-pub(crate) fn name(rt: &impl Print, op: u8) -> io::Result<()> {
-    let at = (op % 16) as usize * 8;
-    rt.write_all(&NAMES[at..at + 8])
-}
 
 pub(crate) fn number(rt: &impl Print, n: usize) -> io::Result<()> {
     print!(rt; " {n}")
@@ -19,14 +10,9 @@ pub(crate) fn number(rt: &impl Print, n: usize) -> io::Result<()> {
 // Few bytes in hexadecimal behind an x, many by their number and digest.
 pub(crate) fn bytes(rt: &impl Print, data: &[u8]) -> io::Result<()> {
     if 16 < data.len() {
-        number(rt, data.len())?;
-        return print!(rt; " bytes {:08x}", digest(data));
+        return print!(rt; " {} bytes {:08x}", data.len(), digest(data));
     }
     print!(rt; " x")?;
-    each_hex(rt, data)
-}
-
-fn each_hex(rt: &impl Print, data: &[u8]) -> io::Result<()> {
     for b in data {
         print!(rt; "{b:02x}")?;
     }
@@ -35,16 +21,9 @@ fn each_hex(rt: &impl Print, data: &[u8]) -> io::Result<()> {
 
 // FNV-1a, 32 bits.
 fn digest(data: &[u8]) -> u32 {
-    let mut found: u32 = 2166136261;
-    for b in data {
-        found = mixed(found, *b);
-    }
-    found
-}
-
-fn mixed(found: u32, b: u8) -> u32 {
-    let x = found ^ (b as u32);
-    ((x as u64) * 16777619 % 4294967296) as u32
+    data.iter().fold(2166136261, |found, b| {
+        (found ^ u32::from(*b)).wrapping_mul(16777619)
+    })
 }
 
 // An answer's first value.
@@ -61,10 +40,8 @@ pub(crate) fn refused(rt: &impl Print, r: Refusal) -> io::Result<()> {
 
 // How many cases each operation had, and all together.
 pub(crate) fn totals(rt: &impl Print, tally: &Tally, cases: usize) -> io::Result<()> {
-    for op in 0..16u8 {
-        name(rt, op)?;
-        number(rt, tally[op as usize])?;
-        print!(rt; "\n")?;
+    for (op, n) in OPERATIONS.iter().zip(tally) {
+        println!(rt; "{op:8} {n}")?;
     }
     println!(rt; "{cases} cases compared")
 }

@@ -1,37 +1,68 @@
 // Requests: a header of ten bytes, then two payloads.
-use std::io;
+use std::{fmt, io};
 
-pub(crate) const SPECTRUM: u8 = 0;
+#[derive(Clone, Copy)]
+pub enum Operation {
+    Spectrum,
+    Check,
+    Value,
+    Decode,
+    GateAt,
+    Read,
+    Run,
+    Count,
+    Build,
+    Fold,
+    List,
+    Oracle,
+    Compare,
+    Judge,
+    Printout,
+    Refused,
+}
 
-pub(crate) const CHECK: u8 = 1;
+// In the order of their numbers.
+pub(crate) const OPERATIONS: [Operation; 16] = [
+    Operation::Spectrum,
+    Operation::Check,
+    Operation::Value,
+    Operation::Decode,
+    Operation::GateAt,
+    Operation::Read,
+    Operation::Run,
+    Operation::Count,
+    Operation::Build,
+    Operation::Fold,
+    Operation::List,
+    Operation::Oracle,
+    Operation::Compare,
+    Operation::Judge,
+    Operation::Printout,
+    Operation::Refused,
+];
 
-pub(crate) const VALUE: u8 = 2;
-
-pub(crate) const DECODE: u8 = 3;
-
-pub(crate) const GATE_AT: u8 = 4;
-
-pub(crate) const READ: u8 = 5;
-
-pub(crate) const RUN: u8 = 6;
-
-pub(crate) const COUNT: u8 = 7;
-
-pub(crate) const BUILD: u8 = 8;
-
-pub(crate) const FOLD: u8 = 9;
-
-pub(crate) const LIST: u8 = 10;
-
-pub(crate) const ORACLE: u8 = 11;
-
-pub(crate) const COMPARE: u8 = 12;
-
-pub(crate) const JUDGE: u8 = 13;
-
-pub(crate) const PRINTOUT: u8 = 14;
-
-pub(crate) const REFUSED: u8 = 15;
+impl fmt::Display for Operation {
+    fn fmt<W: fmt::Write>(&self, f: &mut fmt::Formatter<W>) -> fmt::Result {
+        f.pad(match self {
+            Operation::Spectrum => "spectrum",
+            Operation::Check => "check",
+            Operation::Value => "value",
+            Operation::Decode => "decode",
+            Operation::GateAt => "gate_at",
+            Operation::Read => "read",
+            Operation::Run => "run",
+            Operation::Count => "count",
+            Operation::Build => "build",
+            Operation::Fold => "fold",
+            Operation::List => "list",
+            Operation::Oracle => "oracle",
+            Operation::Compare => "compare",
+            Operation::Judge => "judge",
+            Operation::Printout => "printout",
+            Operation::Refused => "refused",
+        })
+    }
+}
 
 // How many cases each operation had.
 pub type Tally = [usize; 16];
@@ -39,38 +70,53 @@ pub type Tally = [usize; 16];
 // The operation, a, and in two bytes each b, the room and the lengths of the payloads.
 pub type Header = [u8; 10];
 
-pub type Payload = [u8; 8300];
+// The longest payload that is served.
+pub(crate) const PAYLOAD: usize = 8300;
 
-#[derive(Drop)]
+#[derive(Clone, Copy)]
 pub struct Request {
-    pub op: u8,
+    // What runs, and what the line and the tally name: they differ where the number is above 15.
+    pub op: Operation,
+    pub named: Operation,
     pub a: u8,
     pub b: u16,
-    pub room: usize,
+    pub room: u16,
     // The lengths of the payloads.
-    pub first: usize,
-    pub second: usize,
+    pub first: u16,
+    pub second: u16,
 }
 
-pub(crate) fn of(header: Header) -> Request {
-    Request {
-        op: header[0],
-        a: header[1],
-        b: number(header[2], header[3]),
-        room: number(header[4], header[5]) as usize,
-        first: number(header[6], header[7]) as usize,
-        second: number(header[8], header[9]) as usize,
+impl Request {
+    pub(crate) fn of(header: Header) -> Request {
+        Request {
+            op: numbered(header[0]),
+            named: numbered(header[0] % 16),
+            a: header[1],
+            b: u16::from_be_bytes([header[2], header[3]]),
+            room: u16::from_be_bytes([header[4], header[5]]),
+            first: u16::from_be_bytes([header[6], header[7]]),
+            second: u16::from_be_bytes([header[8], header[9]]),
+        }
     }
 }
 
-pub(crate) fn number(high: u8, low: u8) -> u16 {
-    (high as u16) * 256 + (low as u16)
+// The operation of a number. One above 15 counts.
+fn numbered(number: u8) -> Operation {
+    OPERATIONS
+        .get(usize::from(number))
+        .copied()
+        .unwrap_or(Operation::Count)
 }
 
-pub(crate) fn payload(rt: &impl Input, length: usize) -> io::Result<Payload> {
-    let mut bytes = [0u8; 8300];
-    if length <= 8300 {
-        input::fill(&mut rt.reader(), &mut bytes[0..length])?;
-    }
-    Ok(bytes)
+// Reads a payload to the front of the room; none where it is longer.
+pub(crate) fn payload<'a>(
+    rt: &impl Input,
+    length: u16,
+    room: &'a mut [u8],
+) -> io::Result<Option<&'a [u8]>> {
+    let Some(bytes) = room.get_mut(..usize::from(length)) else {
+        return Ok(None);
+    };
+    input::fill(&mut rt.reader(), bytes)?;
+    Ok(Some(bytes))
 }

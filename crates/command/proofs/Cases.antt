@@ -3,8 +3,8 @@ use Prim.Native.Nat.{ℕ}
 use mathlib.Core.Path.{◌≡◌, refl}
 use mathlib.Core.Bool.{true, false}
 use mathlib.Core.List.{List, [], ◌∷◌, ◌++◌}
+use Rattle.std.specs.Prelude.{Some, None}
 use Rattle.listing.specs.Text.{ascii}
-use Rattle.command.specs.declared.digits.Number.TheVariants.{Is, Bad}
 use Rattle.command.specs.Words.{separators, from_word, word_end, word_at}
 use Rattle.command.specs.Digits.{digit_of, all_digits, value_from, number_of, are_bytes, bytes_of}
 
@@ -16,8 +16,8 @@ pub words_hold : (word_at line 0 ≡ ascii "run") × (word_at line 1 ≡ []) × 
 unfolding separators from_word word_end
 words_hold = (refl, refl, refl, refl, refl)
 
-pub numbers_hold : (number_of (ascii "007") ≡ Is 7) × (number_of (ascii "65536") ≡ Is 65535) × (number_of (ascii "99999999999999999999") ≡ Is 65535)
-    × (number_of (ascii "") ≡ Bad) × (number_of (ascii "-1") ≡ Bad) × (number_of (ascii "1a") ≡ Bad)
+pub numbers_hold : (number_of (ascii "007") ≡ Some 7) × (number_of (ascii "65536") ≡ Some 65535) × (number_of (ascii "99999999999999999999") ≡ Some 65535)
+    × (number_of (ascii "") ≡ None) × (number_of (ascii "-1") ≡ None) × (number_of (ascii "1a") ≡ None)
 unfolding digit_of all_digits value_from
 numbers_hold = (refl, refl, refl, refl, refl, refl)
 

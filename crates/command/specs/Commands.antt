@@ -1,19 +1,23 @@
--- The commands by number.
-use Rattle.std.specs.Prelude.{ℕ, ◌<◌, ◌≤◌, ◌≡◌, ◌⊎◌, List, [], ◌∷◌, ◌++◌}
-use Prim.Native.String.{String}
+-- The commands by name.
+use Rattle.std.specs.Prelude.{ℕ, ◌≡◌, ◌⊎◌, List, [], Option, Some, None}
 use Rattle.listing.specs.Text.{ascii}
-use Rattle.command.specs.Words.{word_at}
+use Rattle.command.specs.declared.commands.Command.{Command}
+use Rattle.command.specs.declared.commands.Command.TheVariants.{Spectrum, Build, Judge, Compare, List as ListCommand, Read, Run, Count, Fold, Help}
 
--- a word, and the line behind it
-abbrev pub before : String → List ℕ → List ℕ
-before s rest = ascii s ++ (0 ∷ rest)
+abbrev pub name_of : Command → List ℕ
+name_of Spectrum = ascii "spectrum"
+name_of Build = ascii "build"
+name_of Judge = ascii "judge"
+name_of Compare = ascii "compare"
+name_of ListCommand = ascii "list"
+name_of Read = ascii "read"
+name_of Run = ascii "run"
+name_of Count = ascii "count"
+name_of Fold = ascii "fold"
+name_of Help = ascii "help"
 
--- each name stands at its command's number
-abbrev pub command_names : List ℕ
-command_names =
-    before "spectrum" (before "build" (before "judge" (before "compare" (before "list" (before "read" (before "run" (before "count" (before "fold" (ascii "help")))))))))
-
--- the number of the command that a word names: no word is help, which is 9, and any other word is 10 or above
-pub record Numbered (word : List ℕ) (r : ℕ) : Type 0 where
-  pub named : r < 10 → (word ≡ word_at command_names r) ⊎ ((word ≡ []) × (r ≡ 9))
-  pub unnamed : 10 ≤ r → (k : ℕ) → k < 10 → word ≡ word_at command_names k → ⊥
+-- the command that a word names: no word is help
+pub record Named (word : List ℕ) (r : Option Command) : Type 0 where
+  pub named : (c : Command) → r ≡ Some c → (word ≡ name_of c) ⊎ ((word ≡ []) × (c ≡ Help))
+  pub unnamed : r ≡ None → (c : Command) → word ≡ name_of c → ⊥
+  pub empty : word ≡ [] → r ≡ Some Help

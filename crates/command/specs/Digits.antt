@@ -1,8 +1,6 @@
 -- Numbers and bytes from the digits of a word, and which words are bad.
-use Rattle.std.specs.Prelude.{ℕ, ◌+◌, ◌-◌, ◌*◌, ◌/◌, ◌%◌, min, Bool, true, false, cond, List, [], ◌∷◌, ltb, leb, eqb, length, get_or}
+use Rattle.std.specs.Prelude.{ℕ, ◌+◌, ◌-◌, ◌*◌, ◌/◌, ◌%◌, min, Bool, true, false, cond, List, [], ◌∷◌, ltb, leb, eqb, length, get_or, Option, Some, None}
 use Rattle.numbers.specs.Sums.{list}
-use Rattle.command.specs.declared.digits.Number.{Number}
-use Rattle.command.specs.declared.digits.Number.TheVariants.{Is, Bad}
 
 -- the value of 0 to 9, A to F and a to f in ASCII; 16 for any other byte
 unfoldable pub digit_of : ℕ → ℕ
@@ -25,8 +23,8 @@ value_from v [] = v
 value_from v (b ∷ bs) = value_from (10 * v + digit_of b) bs
 
 -- a number is one or more decimal digits; one that is too large for its type counts as the type's largest
-abbrev pub number_of : List ℕ → Number
-number_of s = cond (ltb 0 (length s)) (cond (all_digits 10 s) (Is (min 65535 (value_from 0 s))) Bad) Bad
+abbrev pub number_of : List ℕ → Option ℕ
+number_of s = cond (ltb 0 (length s)) (cond (all_digits 10 s) (Some (min 65535 (value_from 0 s))) None) None
 
 -- hexadecimal digits of either case, two a byte: an odd number of them is bad, and so is any other byte
 abbrev pub are_bytes : List ℕ → Bool

@@ -1,9 +1,6 @@
 // The commands that take a circuit file first.
-ghost use Rattle.std.specs.Prelude.{◌≡◌, ◌≤◌, length};
-
-use crate::digits::Number;
-use crate::files::Loaded;
-use crate::{answers, commands, files, words};
+use crate::commands::{Call, Command};
+use crate::{answers, files};
 use circuit::Reading;
 use fold::Folded;
 use listing::Listed;
@@ -12,52 +9,40 @@ use std::io;
 use std::rt::Files;
 use verdict::Compared;
 
-// Its FILE is the word `first`.
 pub(crate) fn call(
     rt: &(impl Files + Input + Print),
-    command: usize,
-    line: &[u8],
-    first: usize,
+    call: Call,
     errors: &impl Print,
-) -> io::Result<()>
-    requires { first ≤ 2 }
-{
-    let mut room = files::file_room();
-    let Loaded::Bytes(size) = files::load(rt, words::word(line, first), &mut room, errors)? else {
+) -> io::Result<()> {
+    let mut room = [0; files::FILE_ROOM];
+    let Some(file) = files::load(rt, call.word(0), &mut room, errors)? else {
         return Ok(());
     };
-    let file = files::front(&room, size);
-    let next = words::word(line, first + 1);
-    match command {
-        commands::READ => read(rt, file),
-        commands::RUN => run(rt, file, next, errors),
-        commands::COUNT => count(rt, file),
-        commands::FOLD => fold(rt, file, next, errors),
-        commands::LIST => list(rt, file, first == 2, next, errors),
-        _ => compare(rt, file, next, first == 2, errors),
+    let next = call.word(1);
+    match call.command {
+        Command::Read => read(rt, file),
+        Command::Run => run(rt, file, next, errors),
+        Command::Count => count(rt, file),
+        Command::Fold => fold(rt, file, next, errors),
+        Command::List => list(rt, file, call.option, next, errors),
+        _ => compare(rt, file, next, call.option, errors),
     }
 }
 
 fn read(rt: &impl Print, file: &[u8]) -> io::Result<()> {
     match circuit::read(file) {
         Reading::Refused(r) => answers::refused(rt, r),
-        Reading::Circuit { wires, gates } => {
-            let row = [wires as usize, gates];
-            answers::numbers(rt, b"wires \0 gates ", &row)
-        }
+        Reading::Circuit { wires, gates } => println!(rt; "wires {wires} gates {gates}"),
     }
 }
 
 fn run(rt: &impl Print, file: &[u8], word: &[u8], errors: &impl Print) -> io::Result<()> {
-    let Number::Is(start) = files::number(word, errors)? else {
+    let Some(start) = files::number(word, errors)? else {
         return Ok(());
     };
     match running::run(file, start) {
         Ran::Refused(r) => answers::refused(rt, r),
-        Ran::End { state, phase } => {
-            let row = [state as usize, phase as usize];
-            answers::numbers(rt, b"end \0 phase ", &row)
-        }
+        Ran::End { state, phase } => println!(rt; "end {state} phase {phase}"),
     }
 }
 
@@ -69,10 +54,7 @@ fn count(rt: &impl Print, file: &[u8]) -> io::Result<()> {
             phases,
             score,
             inverters,
-        } => {
-            let row = [cnots, phases, score, inverters];
-            answers::numbers(rt, b"cnots \0 phases \0 score \0 inverters ", &row)
-        }
+        } => println!(rt; "cnots {cnots} phases {phases} score {score} inverters {inverters}"),
     }
 }
 
@@ -82,7 +64,7 @@ fn fold(
     name: &[u8],
     errors: &impl Print,
 ) -> io::Result<()> {
-    let mut out = files::file_room();
+    let mut out = [0; files::FILE_ROOM];
     match fold::fold(file, &mut out) {
         Folded::Refused(r) => answers::refused(rt, r),
         Folded::File {
@@ -90,22 +72,17 @@ fn fold(
             before,
             after,
         } => {
-            if !files::store(rt, name, files::front(&out, length), errors)? {
-                return Ok(());
+            if files::store(rt, name, &out[..length], errors)? {
+                println!(rt; "length {length} score {before} to {after}")?;
+                return answers::wrote(rt, length);
             }
-            let row = [length, before, after];
-            answers::numbers(rt, b"length \0 score \0 to ", &row)?;
-            answers::wrote(rt, length)
+            Ok(())
         }
     }
 }
 
 // Room for the coefficients of 10 wires.
-pub(crate) fn work_room() -> [u16; 1024]
-    ensures { 1024 ≡ length result }
-{
-    [0; 1024]
-}
+pub(crate) const WORK_ROOM: usize = 1024;
 
 pub(crate) fn compared(
     rt: &impl Print,
@@ -132,21 +109,17 @@ fn compare(
     differences: bool,
     errors: &impl Print,
 ) -> io::Result<()> {
-    let mut room = files::file_room();
-    let Loaded::Bytes(size) = files::load(rt, name, &mut room, errors)? else {
+    let mut room = [0; files::FILE_ROOM];
+    let Some(other) = files::load(rt, name, &mut room, errors)? else {
         return Ok(());
     };
-    let mut work = work_room();
-    let found = verdict::compare(file, files::front(&room, size), &mut work);
+    let mut work = [0; WORK_ROOM];
+    let found = verdict::compare(file, other, &mut work);
     compared(rt, found, differences, &work)
 }
 
-// Room for the text of every file: 64 + 32 * 2048.
-fn text_room() -> [u8; 65600]
-    ensures { 65600 ≡ length result }
-{
-    [0; 65600]
-}
+// Room for the text of every file.
+const TEXT_ROOM: usize = 64 + 32 * 2048;
 
 // No name is standard output.
 fn list(
@@ -156,13 +129,13 @@ fn list(
     name: &[u8],
     errors: &impl Print,
 ) -> io::Result<()> {
-    let mut text = text_room();
+    let mut text = [0; TEXT_ROOM];
     match listing::list(file, wrapped, &mut text) {
         Listed::Refused(r) => answers::refused(rt, r),
         Listed::Length(length) => {
-            let lines = files::front(&text, length);
-            if name.len() == 0 {
-                return answers::say(rt, lines);
+            let lines = &text[..length];
+            if name.is_empty() {
+                return rt.write_all(lines);
             }
             if files::store(rt, name, lines, errors)? {
                 return answers::wrote(rt, length);

@@ -2,6 +2,7 @@
 // and what is wrong with the call itself to `errors`.
 #![tactic(auto)]
 
+use commands::{Call, Command};
 use std::io;
 use std::rt::Files;
 
@@ -18,20 +19,18 @@ mod words;
 // stands, and nothing follows.
 pub fn call(rt: &(impl Files + Input + Print), line: &[u8], errors: &impl Print) -> io::Result<()> {
     let name = words::word(line, 0);
-    let command = commands::numbered(name);
-    if command == commands::HELP {
+    let Some(command) = Command::named(name) else {
+        return complaints::unknown(errors, name);
+    };
+    if command == Command::Help {
         return answers::usage(rt);
     }
-    if commands::HELP < command {
-        return complaints::unknown(errors, name);
-    }
-    let first = commands::first(command, words::word(line, 1));
-    if !commands::takes(command, first, words::others(line)) {
+    let call = Call::new(command, line);
+    if !call.is_complete() {
         return complaints::form(errors, command);
     }
-    if command <= commands::JUDGE {
-        tables::call(rt, command, line, first, errors)
-    } else {
-        circuits::call(rt, command, line, first, errors)
+    match command {
+        Command::Spectrum | Command::Build | Command::Judge => tables::call(rt, call, errors),
+        _ => circuits::call(rt, call, errors),
     }
 }

@@ -1,35 +1,25 @@
 // The commands that take a table.
-ghost use Rattle.std.specs.Prelude.{◌≤◌};
-
-use crate::files::{Loaded, Tabled};
-use crate::{answers, circuits, commands, files, words};
+use crate::commands::{Call, Command};
+use crate::{answers, circuits, files};
 use build::Built;
 use spectrum::Transformed;
 use std::io;
 use std::rt::Files;
 
-// Its N and TABLE are the words from `first` on.
 pub(crate) fn call(
     rt: &(impl Files + Input + Print),
-    command: usize,
-    line: &[u8],
-    first: usize,
+    call: Call,
     errors: &impl Print,
-) -> io::Result<()>
-    requires { first ≤ 2 }
-{
-    let mut room = files::table_room();
-    let count = words::word(line, first);
-    let digits = words::word(line, first + 1);
-    let Tabled::Table { n, length } = files::table(rt, count, digits, &mut room, errors)? else {
+) -> io::Result<()> {
+    let mut room = [0; files::TABLE_ROOM];
+    let Some((n, table)) = files::table(rt, call.word(0), call.word(1), &mut room, errors)? else {
         return Ok(());
     };
-    let table = files::front(&room, length);
-    let last = words::word(line, first + 2);
-    match command {
-        commands::SPECTRUM => spectrum(rt, n, table),
-        commands::BUILD => build(rt, n, table, last, errors),
-        _ => judge(rt, n, table, last, first == 2, errors),
+    let last = call.word(2);
+    match call.command {
+        Command::Spectrum => spectrum(rt, n, table),
+        Command::Build => build(rt, n, table, last, errors),
+        _ => judge(rt, n, table, last, call.option, errors),
     }
 }
 
@@ -52,7 +42,7 @@ fn build(
     match build::build(n, table, &mut out) {
         Built::Refused(r) => answers::refused(rt, r),
         Built::Length(length) => {
-            if files::store(rt, name, files::front(&out, length), errors)? {
+            if files::store(rt, name, &out[..length], errors)? {
                 return answers::wrote(rt, length);
             }
             Ok(())
@@ -68,11 +58,11 @@ fn judge(
     differences: bool,
     errors: &impl Print,
 ) -> io::Result<()> {
-    let mut room = files::file_room();
-    let Loaded::Bytes(size) = files::load(rt, name, &mut room, errors)? else {
+    let mut room = [0; files::FILE_ROOM];
+    let Some(file) = files::load(rt, name, &mut room, errors)? else {
         return Ok(());
     };
-    let mut work = circuits::work_room();
-    let found = verdict::judge(n, table, files::front(&room, size), &mut work);
+    let mut work = [0; circuits::WORK_ROOM];
+    let found = verdict::judge(n, table, file, &mut work);
     circuits::compared(rt, found, differences, &work)
 }

@@ -1,11 +1,10 @@
-use Rattle.std.proofs.Common.{arith}
-use Rattle.command.proofs.Scans.{separators_on, separators_ended}
+use Rattle.std.proofs.Common.{rules, tests, eqb, ◌∙◌}
+use Rattle.std.proofs.lemmas.Iterator.{YieldsList-from_slice}
+use Rattle.std.proofs.lemmas.Iterator.Consumers.{count_from_yields_List, YieldsList-from_filter}
+use Rattle.command.proofs.Scans.{separators_filtered}
 use Rattle.command.proofs.words.others.Goals as goal
 
-pub loop-i-preserved : goal.loop-i-preserved
-loop-i-preserved c =
-    let h = separators_on c.args.line.now c.loop-i.i c.loop-i-test.true in
-    (omega arith, omega arith, omega arith)
-
 pub returns : goal.returns
-returns c = omega (arith, separators_ended c.args.line.now c.loop-i.i c.loop-i-test.false)
+returns c =
+    count_from_yields_List _ _ c.count.ensures.ran (YieldsList-from_filter _ (λ b. eqb b 0) (YieldsList-from_slice c.args.line.now cc) c.filter.ensures.closure (λ x b q k. search (rules, tests)))
+    ∙ separators_filtered c.args.line.now
