@@ -6,7 +6,7 @@ use Rattle.refusal.specs.declared.Refusal.{Refusal}
 use Rattle.refusal.specs.Checks.{Outcome, passed, refused, outcome}
 use Rattle.refusal.specs.Contract.{Meets}
 use Rattle.refusal.proofs.Outcomes.{reaches, then_passed}
-use Rattle.refusal.proofs.Contracts.{Distinct, same_refusal, when_passed, meets_values, meets_refusal}
+use Rattle.refusal.proofs.Contracts.{Distinct, answers_distinct, when_passed, meets_values, meets_refusal}
 use Rattle.table.specs.Table.{table_checks, value_at}
 use Rattle.circuit.specs.File.{wires_of, gates_of, file_checks}
 use Rattle.coefficients.specs.Coefficients.{coefficient, ideal_coefficient}
@@ -25,10 +25,7 @@ verdict_distinct (Different s a b p) Same e = cc
 verdict_distinct (Different s a b p) (Different t c d q) e = cc
 
 pub compared_distinct : Distinct compared_says
-compared_distinct (Ok x) (Ok y) e = ap Ok (verdict_distinct x y (cc))
-compared_distinct (Ok x) (Err s) e = cc
-compared_distinct (Err r) (Ok y) e = cc
-compared_distinct (Err r) (Err s) e = ap Err (same_refusal r s e)
+compared_distinct = answers_distinct verdict_values verdict_distinct
 
 -- what is written has 2^w entries
 pub length-differences : (w : ℕ) (c d : ℕ → ℕ) → length (differences w c d) ≡ 2 ^ w

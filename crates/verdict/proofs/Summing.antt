@@ -37,9 +37,9 @@ pub record FileSums (side : ℕ) (f row ends : List ℕ) (w : ℕ) : Type 0 wher
   pub sums : Bytes f → Sums (wires_of f) (circuit (gates_of f)) (coefficient (wires_of f) (gates_of f)) (summary row ends)
 
 pub file_sums : (side : ℕ) (f row₀ ends₀ : List ℕ) (answer : Result Header Refusal) (row ends : List ℕ) → Summarises side f row₀ ends₀ answer row ends → length row₀ ≡ most_masks → length ends₀ ≡ most_starts
-    → (w g : ℕ) → answer ≡ Circuit w g → FileSums side f row ends w
-file_sums side f row₀ ends₀ answer row ends s lr le w g e =
-    let v = summarise_answers side f row₀ ends₀ answer row ends s w g e in
+    → (a : Header) → answer ≡ Ok a → FileSums side f row ends a.wires
+file_sums side f row₀ ends₀ answer row ends s lr le a e =
+    let v = summarise_answers side f row₀ ends₀ answer row ends s a e in
     let p = v.0.passes in
     let h = good_file side f p in
     let r : 2 ^ wires_of f ≤ length row₀ = omega (arith, few_states side f p) in

@@ -2,12 +2,12 @@
 use Rattle.std.specs.Prelude.{ℕ, ◌+◌, ◌^◌, List, [], ◌∷◌, ◌++◌, length}
 use Rattle.refusal.specs.Names.{refusal, UNLIKE}
 use Rattle.refusal.specs.Checks.{Check, check, other, outcome, room_check}
-use Rattle.refusal.specs.Contract.{Said, values, said_of, Meets}
+use Rattle.refusal.specs.Contract.{Said, answer_says, Meets}
 use Rattle.table.specs.Table.{table_checks, value_at}
 use Rattle.circuit.specs.File.{wires_of, gates_of, file_checks}
 use Rattle.verdict.specs.declared.Verdict.{Verdict}
 use Rattle.verdict.specs.declared.Verdict.TheVariants.{Same, Different}
-use Rattle.std.specs.Prelude.{Result, Ok, Err}
+use Rattle.std.specs.Prelude.{Result}
 use Rattle.refusal.specs.declared.Refusal.{Refusal}
 use Rattle.coefficients.specs.Coefficients.{coefficient, ideal_coefficient}
 use Rattle.verdict.specs.Verdicts.{circuit, ideal, verdict, differences}
@@ -18,8 +18,7 @@ verdict_values Same = 0 ∷ []
 verdict_values (Different s e f p) = 1 ∷ s ∷ e ∷ f ∷ p ∷ []
 
 abbrev pub compared_says : Result Verdict Refusal → Said
-compared_says (Ok v) = values (verdict_values v)
-compared_says (Err r) = said_of r
+compared_says = answer_says verdict_values
 
 -- "12 UNLIKE: wire counts differ", "13 ROOM: .. work slice [shorter] than 2^w"
 abbrev pub work_checks : ℕ → ℕ → ℕ → List Check

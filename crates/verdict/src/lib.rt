@@ -1,8 +1,6 @@
 // Document 01, "Coefficients and verdict": whether two circuits, or a circuit and a table, do the same.
 #![tactic(auto)]
 
-use refusal::Refusal;
-
 // both sides summed up
 mod comparer;
 
@@ -17,7 +15,7 @@ mod scan;
 
 pub use comparer::{compare, judge};
 
-#[derive(Drop)]
+#[derive(Clone, Copy, PartialEq, Eq)]
 pub enum Verdict {
     Same,
     Different {
@@ -26,11 +24,4 @@ pub enum Verdict {
         second: u16,
         phase: u16,
     },
-}
-
-// The answer of compare and of judge.
-#[derive(Drop)]
-pub enum Compared {
-    Found(Verdict),
-    Refused(Refusal),
 }

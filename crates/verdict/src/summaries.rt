@@ -5,24 +5,29 @@ ghost use Rattle.numbers.specs.Turn.{difference};
 ghost use Rattle.coefficients.specs.Working.{entry};
 ghost use Rattle.verdict.specs.Working.{summary, JudgesSummaries};
 
-use crate::Compared;
+use crate::Verdict;
 use crate::scan::scan;
 use crate::summary::Summary;
+use refusal::{Cause, Refusal};
 
 // Refused where the wires differ or the work slice is short; else the front of work becomes the first's coefficients
 // minus the second's.
-pub(crate) fn judge_summaries(first: &Summary, second: &Summary, work: &mut [u16]) -> Compared
+pub(crate) fn judge_summaries(
+    first: &Summary,
+    second: &Summary,
+    work: &mut [u16],
+) -> Result<Verdict, Refusal>
     ensures { JudgesSummaries first.now.wires (summary first.now.row.now first.now.ends.now) second.now.wires (summary second.now.row.now second.now.ends.now) work.old result work.new }
 {
     if first.wires != second.wires {
-        return Compared::Refused(refusal::by(refusal::UNLIKE));
+        return Err(Cause::Unlike.into());
     }
     let size = numbers::power(first.wires);
     if work.len() < size {
-        return Compared::Refused(refusal::by(refusal::ROOM));
+        return Err(Cause::Room.into());
     }
     subtract(first.row, second.row, &mut work[..size]);
-    Compared::Found(scan(first, second))
+    Ok(scan(first, second))
 }
 
 // First minus second at each place of the work slice.

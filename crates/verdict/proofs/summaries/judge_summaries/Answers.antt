@@ -14,14 +14,14 @@ pub returns-then-first-second : goal.returns-then-first-second
 returns-then-first-second c =
     let x = c.args.first.now in
     let y = c.args.second.now in
-    wires_refused x.wires y.wires (verdict_values (judged x.wires (summary x.row.now x.ends.now) (summary y.row.now y.ends.now))) (differences x.wires (entry x.row.now) (entry y.row.now)) c.args.work.now (omega (arith, c.if-first-second.true)) c.by.result c.by.ensures
+    wires_refused x.wires y.wires (verdict_values (judged x.wires (summary x.row.now x.ends.now) (summary y.row.now y.ends.now))) (differences x.wires (entry x.row.now) (entry y.row.now)) c.args.work.now (omega (arith, c.if-first-second.true)) c.into.result c.into.ensures
 
 pub returns-then-work-size : goal.returns-then-work-size
 returns-then-work-size c =
     let x = c.args.first.now in
     let y = c.args.second.now in
     let size = small_power x.wires c.power-size.result x.holds.few c.power-size.ensures in
-    work_refused x.wires y.wires (verdict_values (judged x.wires (summary x.row.now x.ends.now) (summary y.row.now y.ends.now))) (differences x.wires (entry x.row.now) (entry y.row.now)) c.args.work.now (omega (arith, c.if-first-second.false)) (omega (arith, size, c.if-work-size.true)) c.by-then-work-size.result c.by-then-work-size.ensures
+    work_refused x.wires y.wires (verdict_values (judged x.wires (summary x.row.now x.ends.now) (summary y.row.now y.ends.now))) (differences x.wires (entry x.row.now) (entry y.row.now)) c.args.work.now (omega (arith, c.if-first-second.false)) (omega (arith, size, c.if-work-size.true)) c.into-then-work-size.result c.into-then-work-size.ensures
 
 pub returns : goal.returns
 unfolding differences
