@@ -8,7 +8,7 @@ use lib.ListN.{length, drop}
 use Rattle.refusal.specs.declared.Refusal.{Refusal}
 use Rattle.refusal.specs.Checks.{Check, passed, refused, outcome, room_check}
 use Rattle.refusal.proofs.Passed.{passed_fail}
-use Rattle.refusal.proofs.Contracts.{Distinct, same_refusal, meets_values, meets_refusal}
+use Rattle.refusal.proofs.Contracts.{Distinct, answers_distinct, meets_values, meets_refusal}
 use Rattle.refusal.proofs.Outcomes.{parts_pass}
 use Rattle.refusal.proofs.Rooms.{room_suffices}
 use Rattle.circuit.specs.File.{wires_of, gates_of, file_checks}
@@ -45,10 +45,7 @@ module _ (text before : List ℕ) (a : Result ℕ Refusal) (after : List ℕ) (m
   text_refuses r e = meets_refusal listed_says (outcome room) (length text ∷ []) text before a after m r (ap listed_says e)
 
 pub listed_distinct : Distinct listed_says
-listed_distinct (Ok l) (Ok m) e = cc
-listed_distinct (Ok l) (Err r) e = cc
-listed_distinct (Err r) (Ok m) e = cc
-listed_distinct (Err r) (Err s) e = ap Err (same_refusal r s e)
+listed_distinct = answers_distinct (λ (l : ℕ). l ∷ []) (λ j k e. cc)
 
 -- how long the text of a file can be: 2,048 gates of 32 bytes, and 64 for the rest
 module _ (wrapped : Bool) (f : List ℕ) (bytes : Bytes f) where

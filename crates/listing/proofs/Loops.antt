@@ -3,7 +3,7 @@ use Prim.Native.Nat.{ℕ, ◌+◌, ◌*◌, ◌≤◌}
 use native.Mathlib.Omega.{arith}
 use mathlib.Core.Path.{◌≡◌, refl, ap, ◌∙◌}
 use mathlib.Core.List.{List, [], ◌∷◌, ◌++◌}
-use lib.ListN.{length, drop, length-append}
+use lib.ListN.{length, length-append}
 use Rattle.circuit.specs.declared.Gate.{Gate}
 use Rattle.circuit.specs.File.{wires_of, count_of, gates_of}
 use Rattle.circuit.specs.Bytes.{Bytes}
@@ -41,5 +41,5 @@ module _ (f : List ℕ) (bytes : Bytes f) (good : GoodFile f) where
   lines_fit = omega (arith, lines_short (wires_of f) good.few (gates_of f) (file_sound f bytes good), length-gates f bytes good)
 
   -- on the way the length is no longer than the whole
-  pub part_fits : (total i : ℕ) → Walk longer f 0 total i → total ≤ longest_line * count_of f
-  part_fits total i w = omega (arith, longer_walked (drop i (gates_of f)) total, longer_walked (gates_of f) 0, w.left, lines_fit)
+  pub part_fits : (total : ℕ) (left : List Gate) → Walk longer (gates_of f) 0 left total → total ≤ longest_line * count_of f
+  part_fits total left w = omega (arith, longer_walked left total, longer_walked (gates_of f) 0, w, lines_fit)

@@ -2,12 +2,12 @@
 use Rattle.std.specs.Prelude.{ℕ, ◌-◌, Bool, true, false, List, [], ◌∷◌, ◌++◌, length}
 use Rattle.refusal.specs.Names.{refusal, LOOSE}
 use Rattle.refusal.specs.Checks.{Check, check, less, outcome, room_check}
-use Rattle.refusal.specs.Contract.{Said, values, said_of, Meets}
+use Rattle.refusal.specs.Contract.{Said, answer_says, Meets}
 use Rattle.circuit.specs.declared.Gate.{Gate}
 use Rattle.circuit.specs.declared.Gate.TheVariants.{Cnot, Phase, Inverter}
 use Rattle.circuit.specs.File.{wires_of, gates_of, file_checks}
 use Rattle.running.specs.Ends.{lowest_loose}
-use Rattle.std.specs.Prelude.{Result, Ok, Err}
+use Rattle.std.specs.Prelude.{Result}
 use Rattle.refusal.specs.declared.Refusal.{Refusal}
 use Rattle.listing.specs.Text.{numbered}
 use Rattle.listing.specs.Words.{words}
@@ -64,8 +64,7 @@ list_checks wrapped f room = file_checks 0 f ++ (loose_check wrapped (wires_of f
 
 -- the answer is the text's length
 abbrev pub listed_says : Result ℕ Refusal → Said
-listed_says (Ok l) = values (l ∷ [])
-listed_says (Err r) = said_of r
+listed_says = answer_says (λ (l : ℕ). l ∷ [])
 
 -- the contract of list
 abbrev pub Lists : Bool → List ℕ → List ℕ → Result ℕ Refusal → List ℕ → Type 0

@@ -4,20 +4,19 @@ ghost use Rattle.refusal.specs.Names.{refusal, LOOSE};
 ghost use Rattle.refusal.specs.Checks.{outcome, passed, refused};
 ghost use Rattle.numbers.specs.Search.{least};
 ghost use Rattle.numbers.specs.Working.{unlike};
-ghost use Rattle.circuit.specs.File.{wires_of, count_of, gates_of, file_checks};
+ghost use Rattle.circuit.specs.File.{wires_of, gates_of};
 ghost use Rattle.running.specs.Masks.{most_wires};
 ghost use Rattle.running.specs.Working.{numbers_from};
 ghost use Rattle.listing.specs.Listing.{loose_check};
 
-// What the wires hold behind all gates of a good file.
-fn pass_all(file: &[u8], gates: usize, held: &mut [u16])
-    requires { (outcome (file_checks 0 file.now) ≡ passed) × (gates ≡ count_of file.now) }
-    ensures { held.new ≡ numbers_from (gates_of file.now) held.old }
+use circuit::Circuit;
+
+// What the wires hold behind all gates of a circuit.
+fn pass_all(circuit: &Circuit, held: &mut [u16])
+    ensures { held.new ≡ numbers_from (gates_of circuit.now.file.now) held.old }
 {
-    let mut i: usize = 0;
-    while i < gates {
-        running::pass(held, circuit::good_gate(file, i));
-        i += 1;
+    for gate in circuit.gates() {
+        running::pass(held, gate);
     }
 }
 
@@ -35,16 +34,15 @@ fn lowest_loose(held: &[u16], wires: usize) -> usize
     wires
 }
 
-// Whether a good file is not to be listed for its loose wires. A plain listing asks nothing of them.
-pub(crate) fn is_loose(file: &[u8], wires: u8, gates: usize, wrapped: bool) -> bool
-    requires { (outcome (file_checks 0 file.now) ≡ passed) × (gates ≡ count_of file.now) × (wires ≡ wires_of file.now) }
-    ensures { outcome (loose_check wrapped (wires_of file.now) (gates_of file.now)) ≡ cond result (refused (refusal LOOSE)) passed }
+// Whether a circuit is not to be listed for its loose wires. A plain listing asks nothing of them.
+pub(crate) fn is_loose(circuit: &Circuit, wrapped: bool) -> bool
+    ensures { outcome (loose_check wrapped (wires_of circuit.now.file.now) (gates_of circuit.now.file.now)) ≡ cond result (refused (refusal LOOSE)) passed }
 {
     if !wrapped {
         return false;
     }
     let mut held = running::own_held();
-    pass_all(file, gates, &mut held);
-    let wires = wires as usize;
+    pass_all(circuit, &mut held);
+    let wires = circuit.wires() as usize;
     lowest_loose(&held, wires) < wires
 }

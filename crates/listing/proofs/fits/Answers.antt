@@ -7,9 +7,10 @@ use lib.Dec.{leb}
 use lib.ListN.{length}
 use borrow.Author.Tests.{le-leb}
 use Rattle.refusal.specs.Checks.{outcome, passed}
+use Rattle.refusal.proofs.Passed.{fail_passed}
 use Rattle.circuit.specs.Bytes.{Bytes}
 use Rattle.circuit.specs.File.{wires_of, count_of, gates_of, file_checks}
-use Rattle.circuit.proofs.Callers.{good_file}
+use Rattle.circuit.proofs.Callers.{good_file, good_circuit}
 use Rattle.listing.specs.Listing.{wrap_line, gate_lines, listing_of, listing_of_file}
 use Rattle.listing.specs.Working.{head_length, longest_line}
 use Rattle.listing.proofs.Lengths.{head_long, head_short, wrap_short, listing_length}
@@ -38,40 +39,40 @@ measured wrapped f bytes e w q head wrap p r =
     }
 
 pub wrap_length-requires : goal.wrap_length-requires
-wrap_length-requires c = omega (arith, (good_file 0 c.args.file.now c.requires.0).some, c.requires.2)
+wrap_length-requires c = omega (arith, (good_circuit c.args.circuit.now.good).some, c.wires-wires.ensures)
 
 pub overflow_mul-frame : goal.overflow_mul-frame
 overflow_mul-frame c =
     let a = c.args in
-    let m = measured a.wrapped a.file.now (λ j. (c.type_inv.file j).fits) c.requires.0 a.wires c.requires.2 c.head_length.result c.wrap_length.result c.head_length.ensures c.wrap_length.ensures in
+    let m = measured a.wrapped a.circuit.now.file.now a.circuit.now.bytes (fail_passed (file_checks 0 a.circuit.now.file.now) a.circuit.now.good) c.wires-wires.result c.wires-wires.ensures c.head_length.result c.wrap_length.result c.head_length.ensures c.wrap_length.ensures in
     omega (arith, m.h_line)
 
 pub overflow_add-frame : goal.overflow_add-frame
 overflow_add-frame c =
     let a = c.args in
-    let m = measured a.wrapped a.file.now (λ j. (c.type_inv.file j).fits) c.requires.0 a.wires c.requires.2 c.head_length.result c.wrap_length.result c.head_length.ensures c.wrap_length.ensures in
+    let m = measured a.wrapped a.circuit.now.file.now a.circuit.now.bytes (fail_passed (file_checks 0 a.circuit.now.file.now) a.circuit.now.good) c.wires-wires.result c.wires-wires.ensures c.head_length.result c.wrap_length.result c.head_length.ensures c.wrap_length.ensures in
     omega (arith, m.front, m.h_line)
 
 pub overflow_add-frame-2 : goal.overflow_add-frame-2
 overflow_add-frame-2 c =
     let a = c.args in
-    let m = measured a.wrapped a.file.now (λ j. (c.type_inv.file j).fits) c.requires.0 a.wires c.requires.2 c.head_length.result c.wrap_length.result c.head_length.ensures c.wrap_length.ensures in
-    omega (arith, m.front, m.h_line, m.gates, ap (◌* a.gates) c.longest_line.ensures)
+    let m = measured a.wrapped a.circuit.now.file.now a.circuit.now.bytes (fail_passed (file_checks 0 a.circuit.now.file.now) a.circuit.now.good) c.wires-wires.result c.wires-wires.ensures c.head_length.result c.wrap_length.result c.head_length.ensures c.wrap_length.ensures in
+    omega (arith, m.front, m.h_line, m.gates, ap (◌* c.gate_count.result) c.longest_line.ensures, c.gate_count.ensures)
 
 pub returns-then-frame-longest_line : goal.returns-then-frame-longest_line
 returns-then-frame-longest_line c =
     let a = c.args in
-    let m = measured a.wrapped a.file.now (λ j. (c.type_inv.file j).fits) c.requires.0 a.wires c.requires.2 c.head_length.result c.wrap_length.result c.head_length.ensures c.wrap_length.ensures in
-    sym (le-leb (length (listing_of_file a.wrapped a.file.now)) a.room (omega (arith, m.whole, m.rest, ap (◌* a.gates) c.longest_line.ensures, c.if-frame-longest_line.true)))
+    let m = measured a.wrapped a.circuit.now.file.now a.circuit.now.bytes (fail_passed (file_checks 0 a.circuit.now.file.now) a.circuit.now.good) c.wires-wires.result c.wires-wires.ensures c.head_length.result c.wrap_length.result c.head_length.ensures c.wrap_length.ensures in
+    sym (le-leb (length (listing_of_file a.wrapped a.circuit.now.file.now)) a.room (omega (arith, m.whole, m.rest, ap (◌* c.gate_count.result) c.longest_line.ensures, c.gate_count.ensures, c.if-frame-longest_line.true)))
 
 pub overflow_add-result : goal.overflow_add-result
 overflow_add-result c =
     let a = c.args in
-    let m = measured a.wrapped a.file.now (λ j. (c.type_inv.file j).fits) c.requires.0 a.wires c.requires.2 c.head_length.result c.wrap_length.result c.head_length.ensures c.wrap_length.ensures in
+    let m = measured a.wrapped a.circuit.now.file.now a.circuit.now.bytes (fail_passed (file_checks 0 a.circuit.now.file.now) a.circuit.now.good) c.wires-wires.result c.wires-wires.ensures c.head_length.result c.wrap_length.result c.head_length.ensures c.wrap_length.ensures in
     omega (arith, c.lines_length.ensures, m.front, m.h_line, m.rest, m.gates)
 
 pub returns : goal.returns
 returns c =
     let a = c.args in
-    let m = measured a.wrapped a.file.now (λ j. (c.type_inv.file j).fits) c.requires.0 a.wires c.requires.2 c.head_length.result c.wrap_length.result c.head_length.ensures c.wrap_length.ensures in
+    let m = measured a.wrapped a.circuit.now.file.now a.circuit.now.bytes (fail_passed (file_checks 0 a.circuit.now.file.now) a.circuit.now.good) c.wires-wires.result c.wires-wires.ensures c.head_length.result c.wrap_length.result c.head_length.ensures c.wrap_length.ensures in
     ap (λ (n : ℕ). leb n a.room) (omega (arith, m.whole, c.lines_length.ensures))

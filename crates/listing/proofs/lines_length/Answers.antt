@@ -4,33 +4,30 @@ use native.Mathlib.Omega.{arith}
 use mathlib.Core.Path.{ap, ◌∙◌}
 use lib.ListN.{length}
 use Rattle.circuit.specs.File.{gates_of}
-use Rattle.circuit.specs.Bytes.{Bytes}
-use Rattle.circuit.proofs.Callers.{GoodFile, good_file}
-use Rattle.circuit.proofs.Walks.{Walk, walk_goes_on, walk_ends}
+use Rattle.circuit.specs.Working.{said_gates}
+use Rattle.circuit.proofs.Callers.{GoodFile, good_circuit}
+use Rattle.circuit.proofs.Walks.{Walk, walk_starts, walk_goes_on, walk_ends}
 use Rattle.listing.specs.Listing.{gate_lines}
 use Rattle.listing.proofs.Loops.{longer, longer_walked, part_fits}
 use Rattle.listing.proofs.lines_length.Goals as goal
 
+pub loop-gate-init : goal.loop-gate-init
+loop-gate-init c = walk_starts longer (gates_of c.args.circuit.now.file.now) 0 (ap (λ s. said_gates s.left.now) c.into_iter-gate-iterator.ensures.into_iter_gives ∙ c.gates-gate-items.ensures)
+
 pub overflow_add-total : goal.overflow_add-total
 overflow_add-total c =
-    let l = c.loop-i in
-    let f = c.args.file.now in
-    let bytes : Bytes f = λ j. (c.type_inv.file j).fits in
-    let good : GoodFile f = good_file 0 f c.requires.0 in
+    let l = c.loop-gate in
+    let i = c.args.circuit.now in
+    let f = i.file.now in
+    let good : GoodFile f = good_circuit i.good in
     let total = l.total + c.line_length-total.result in
-    let next : Walk longer f 0 total (l.i + 1) = walk_goes_on f bytes good l.i c.good_gate.result (omega arith) c.good_gate.ensures longer 0 l.total total (ap (l.total +◌) c.line_length-total.ensures) l.invariant in
-    omega (arith, part_fits f bytes good total (l.i + 1) next, good.count)
+    let next : Walk longer (gates_of f) 0 (said_gates c.next.new.self.left.now) total = walk_goes_on longer (gates_of f) 0 c.in-Some.ensures.steps (ap (l.total +◌) c.line_length-total.ensures) l.invariant in
+    omega (arith, part_fits f i.bytes good total _ next, good.count)
 
-pub loop-i-preserved : goal.loop-i-preserved
-loop-i-preserved c =
-    let l = c.loop-i in
-    let f = c.args.file.now in
-    let bytes : Bytes f = λ j. (c.type_inv.file j).fits in
-    walk_goes_on f bytes (good_file 0 f c.requires.0) l.i c.good_gate.result (omega arith) c.good_gate.ensures longer 0 l.total (l.total + c.line_length-total.result) (ap (l.total +◌) c.line_length-total.ensures) l.invariant
+pub loop-gate-preserved : goal.loop-gate-preserved
+loop-gate-preserved c = walk_goes_on longer (gates_of c.args.circuit.now.file.now) 0 c.in-Some.ensures.steps (ap (c.loop-gate.total +◌) c.line_length-total.ensures) c.loop-gate.invariant
 
 pub returns : goal.returns
 returns c =
-    let l = c.loop-i in
-    let f = c.args.file.now in
-    let bytes : Bytes f = λ j. (c.type_inv.file j).fits in
-    walk_ends f bytes (good_file 0 f c.requires.0) l.i (omega arith) longer 0 l.total l.invariant ∙ longer_walked (gates_of f) 0 ∙ zero-add (length (gate_lines (gates_of f)))
+    let gs = gates_of c.args.circuit.now.file.now in
+    walk_ends longer gs 0 c.in-None.ensures.steps.0 c.loop-gate.invariant ∙ longer_walked gs 0 ∙ zero-add (length (gate_lines gs))

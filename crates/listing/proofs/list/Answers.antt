@@ -1,18 +1,20 @@
-use Prim.Native.Nat.{ℕ, ◌≤◌}
+use Prim.Native.Nat.{ℕ, ◌+◌, ◌≤◌}
 use native.Mathlib.Omega.{arith}
-use mathlib.Core.Path.{◌≡◌, sym, ap, ◌∙◌}
+use mathlib.Core.Path.{◌≡◌, sym, ap, subst, ◌∙◌}
 use mathlib.Core.Bool.{Bool, true, false, cond}
 use mathlib.Core.List.{List, ◌++◌}
+use lib.Dec.{leb}
 use lib.ListN.{length}
 use borrow.Author.Tests.{leb-true, leb-false}
 use Rattle.refusal.specs.Names.{refusal, LOOSE}
 use Rattle.refusal.specs.Checks.{Check, passed, refused, outcome}
+use Rattle.refusal.proofs.Contracts.{handed_on}
 use Rattle.refusal.proofs.Outcomes.{then_refused, then_passed}
 use Rattle.circuit.specs.File.{wires_of, gates_of, file_checks}
 use Rattle.circuit.specs.Working.{Wrote}
-use Rattle.circuit.proofs.Callers.{Answered, read_answers, read_refuses}
+use Rattle.circuit.proofs.Callers.{good_circuit, circuit_passes}
 use Rattle.circuit.proofs.Parts.{Left, room, less_left, all_written}
-use Rattle.listing.specs.Listing.{head_lines, wrap_line, gate_lines, listing_of_file, loose_check}
+use Rattle.listing.specs.Listing.{head_lines, wrap_line, gate_lines, listing_of_file, loose_check, Lists}
 use Rattle.listing.proofs.Pieces.{listing_left}
 use Rattle.listing.proofs.Answers.{earlier_fails, room_fails, answered}
 use Rattle.listing.proofs.list.Goals as goal
@@ -58,83 +60,84 @@ pub returns-then-is_loose : goal.returns-then-is_loose
 returns-then-is_loose c =
     let f = c.args.file.now in
     let b = c.args.wrapped in
-    let g : Answered 0 f c.in-Circuit.wires c.in-Circuit.gates = read_answers 0 f c.read.result c.read.ensures c.in-Circuit.wires c.in-Circuit.gates c.in-Circuit.is in
-    earlier_fails (rows b f) (text b f) c.args.out.now c.by.result
-    (comes_to b f g.passes c.is_loose.result c.is_loose.ensures true c.if-is_loose.true ∙ ap refused (sym c.by.ensures))
+    let i = c.in_ok-circuit in
+    earlier_fails (rows b f) (text b f) c.args.out.now c.into.result
+    (comes_to b f (circuit_passes i.ensures i.circuit.good) c.is_loose.result (subst (λ h. outcome (loose_check b (wires_of h) (gates_of h)) ≡ cond c.is_loose.result (refused (refusal LOOSE)) passed) i.ensures c.is_loose.ensures) true c.if-is_loose.true ∙ ap refused (sym c.into.ensures))
 
 pub returns-then-not-fits : goal.returns-then-not-fits
 returns-then-not-fits c =
     let f = c.args.file.now in
     let b = c.args.wrapped in
     let out = c.args.out.now in
-    let g : Answered 0 f c.in-Circuit.wires c.in-Circuit.gates = read_answers 0 f c.read.result c.read.ensures c.in-Circuit.wires c.in-Circuit.gates c.in-Circuit.is in
-    room_fails (rows b f) (text b f) out (comes_to b f g.passes c.is_loose.result c.is_loose.ensures false c.if-is_loose.false)
-    (leb-false (length (text b f)) (length out) (sym c.fits.ensures ∙ c.if-not-fits.true)) c.by-then-not-fits.result c.by-then-not-fits.ensures
+    let i = c.in_ok-circuit in
+    room_fails (rows b f) (text b f) out (comes_to b f (circuit_passes i.ensures i.circuit.good) c.is_loose.result (subst (λ h. outcome (loose_check b (wires_of h) (gates_of h)) ≡ cond c.is_loose.result (refused (refusal LOOSE)) passed) i.ensures c.is_loose.ensures) false c.if-is_loose.false)
+    (leb-false (length (text b f)) (length out) (sym (c.fits.ensures ∙ ap (λ h. leb (length (text b h)) (length out)) i.ensures) ∙ c.if-not-fits.true)) c.into-then-not-fits.result c.into-then-not-fits.ensures
 
 pub put_head-at-requires : goal.put_head-at-requires
 put_head-at-requires c =
     let f = c.args.file.now in
     let b = c.args.wrapped in
-    let w = c.in-Circuit.wires in
+    let w = c.wires-wires.result in
     let out = c.args.out.now in
-    let g : Answered 0 f w c.in-Circuit.gates = read_answers 0 f c.read.result c.read.ensures w c.in-Circuit.gates c.in-Circuit.is in
-    let h : length (text b f) ≤ length out = leb-true (length (text b f)) (length out) (sym c.fits.ensures ∙ c.if-not-fits.false) in
-    room (head_lines w) (wrap b w ++ (lines f ++ wrap b w)) (text_left b f w g.wires out h)
+    let i = c.in_ok-circuit in
+    let h : length (text b f) ≤ length out = leb-true (length (text b f)) (length out) (sym (c.fits.ensures ∙ ap (λ h. leb (length (text b h)) (length out)) i.ensures) ∙ c.if-not-fits.false) in
+    room (head_lines w) (wrap b w ++ (lines f ++ wrap b w)) (text_left b f w (c.wires-wires.ensures ∙ ap wires_of i.ensures) out h)
 
 pub put_wrap-at-requires-clause-le_wires : goal.put_wrap-at-requires-clause-le_wires
 put_wrap-at-requires-clause-le_wires c =
-    let g : Answered 0 c.args.file.now c.in-Circuit.wires c.in-Circuit.gates = read_answers 0 c.args.file.now c.read.result c.read.ensures c.in-Circuit.wires c.in-Circuit.gates c.in-Circuit.is in
-    omega (arith, g.wires, g.file.some)
+    let i = c.in_ok-circuit in
+    omega (arith, c.wires-wires.ensures, (good_circuit i.circuit.good).some)
 
 pub put_wrap-at-requires-clause-wires_in_bounds : goal.put_wrap-at-requires-clause-wires_in_bounds
 put_wrap-at-requires-clause-wires_in_bounds c =
     let f = c.args.file.now in
     let b = c.args.wrapped in
-    let w = c.in-Circuit.wires in
+    let w = c.wires-wires.result in
     let out = c.args.out.now in
-    let g : Answered 0 f w c.in-Circuit.gates = read_answers 0 f c.read.result c.read.ensures w c.in-Circuit.gates c.in-Circuit.is in
-    let h : length (text b f) ≤ length out = leb-true (length (text b f)) (length out) (sym c.fits.ensures ∙ c.if-not-fits.false) in
-    room (wrap b w) (lines f ++ wrap b w) (behind_head b f w g.wires out h c.put_head-at.ensures)
+    let i = c.in_ok-circuit in
+    let h : length (text b f) ≤ length out = leb-true (length (text b f)) (length out) (sym (c.fits.ensures ∙ ap (λ h. leb (length (text b h)) (length out)) i.ensures) ∙ c.if-not-fits.false) in
+    room (wrap b w) (lines f ++ wrap b w) (behind_head b f w (c.wires-wires.ensures ∙ ap wires_of i.ensures) out h c.put_head-at.ensures)
 
-pub put_gates-at-requires-clause-file_in_bounds : goal.put_gates-at-requires-clause-file_in_bounds
-put_gates-at-requires-clause-file_in_bounds c =
+pub put_gates-at-requires : goal.put_gates-at-requires
+put_gates-at-requires c =
     let f = c.args.file.now in
     let b = c.args.wrapped in
-    let w = c.in-Circuit.wires in
+    let w = c.wires-wires.result in
     let out = c.args.out.now in
-    let g : Answered 0 f w c.in-Circuit.gates = read_answers 0 f c.read.result c.read.ensures w c.in-Circuit.gates c.in-Circuit.is in
-    let h : length (text b f) ≤ length out = leb-true (length (text b f)) (length out) (sym c.fits.ensures ∙ c.if-not-fits.false) in
-    room (lines f) (wrap b w) (behind_wrap b f w g.wires out h c.put_head-at.ensures c.put_wrap-at.ensures)
+    let i = c.in_ok-circuit in
+    let h : length (text b f) ≤ length out = leb-true (length (text b f)) (length out) (sym (c.fits.ensures ∙ ap (λ h. leb (length (text b h)) (length out)) i.ensures) ∙ c.if-not-fits.false) in
+    subst (λ g. c.put_wrap-at.result + length (lines g) ≤ length c.put_wrap-at.new.out) (sym i.ensures) (room (lines f) (wrap b w) (behind_wrap b f w (c.wires-wires.ensures ∙ ap wires_of i.ensures) out h c.put_head-at.ensures c.put_wrap-at.ensures))
 
 pub put_wrap-requires-clause-le_wires : goal.put_wrap-requires-clause-le_wires
 put_wrap-requires-clause-le_wires c =
-    let g : Answered 0 c.args.file.now c.in-Circuit.wires c.in-Circuit.gates = read_answers 0 c.args.file.now c.read.result c.read.ensures c.in-Circuit.wires c.in-Circuit.gates c.in-Circuit.is in
-    omega (arith, g.wires, g.file.some)
+    let i = c.in_ok-circuit in
+    omega (arith, c.wires-wires.ensures, (good_circuit i.circuit.good).some)
 
 pub put_wrap-requires-clause-wires_in_bounds : goal.put_wrap-requires-clause-wires_in_bounds
 put_wrap-requires-clause-wires_in_bounds c =
     let f = c.args.file.now in
     let b = c.args.wrapped in
-    let w = c.in-Circuit.wires in
+    let w = c.wires-wires.result in
     let out = c.args.out.now in
-    let g : Answered 0 f w c.in-Circuit.gates = read_answers 0 f c.read.result c.read.ensures w c.in-Circuit.gates c.in-Circuit.is in
-    let h : length (text b f) ≤ length out = leb-true (length (text b f)) (length out) (sym c.fits.ensures ∙ c.if-not-fits.false) in
-    (behind_gates b f w g.wires out h c.put_head-at.ensures c.put_wrap-at.ensures c.put_gates-at.ensures).fits
+    let i = c.in_ok-circuit in
+    let h : length (text b f) ≤ length out = leb-true (length (text b f)) (length out) (sym (c.fits.ensures ∙ ap (λ h. leb (length (text b h)) (length out)) i.ensures) ∙ c.if-not-fits.false) in
+    (behind_gates b f w (c.wires-wires.ensures ∙ ap wires_of i.ensures) out h c.put_head-at.ensures c.put_wrap-at.ensures (subst (λ h. Wrote (lines h) c.put_wrap-at.result c.put_wrap-at.new.out c.put_gates-at.result c.put_gates-at.new.out) i.ensures c.put_gates-at.ensures)).fits
 
-pub returns-in-Refused : goal.returns-in-Refused
-returns-in-Refused c =
+pub returns-in_err-circuit : goal.returns-in_err-circuit
+returns-in_err-circuit c =
     let f = c.args.file.now in
     let b = c.args.wrapped in
-    let r = c.in-Refused.refusal in
-    earlier_fails (rows b f) (text b f) c.args.out.now r (then_refused (file_checks 0 f) (loose b f) r (read_refuses 0 f c.read.result c.read.ensures r c.in-Refused.is))
+    let out = c.args.out.now in
+    subst (λ r. Lists b f out r out) (sym (handed_on c.from_residual.ensures.1))
+    (earlier_fails (rows b f) (text b f) out _ (then_refused (file_checks 0 f) (loose b f) _ c.in_err-circuit.ensures))
 
-pub returns-else-not-fits : goal.returns-else-not-fits
-returns-else-not-fits c =
+pub returns : goal.returns
+returns c =
     let f = c.args.file.now in
     let b = c.args.wrapped in
-    let w = c.in-Circuit.wires in
+    let w = c.wires-wires.result in
     let out = c.args.out.now in
-    let g : Answered 0 f w c.in-Circuit.gates = read_answers 0 f c.read.result c.read.ensures w c.in-Circuit.gates c.in-Circuit.is in
-    let h : length (text b f) ≤ length out = leb-true (length (text b f)) (length out) (sym c.fits.ensures ∙ c.if-not-fits.false) in
-    answered (rows b f) (text b f) out (comes_to b f g.passes c.is_loose.result c.is_loose.ensures false c.if-is_loose.false) h c.put_wrap.result c.put_wrap.new.out
-    (all_written (behind_gates b f w g.wires out h c.put_head-at.ensures c.put_wrap-at.ensures c.put_gates-at.ensures) c.put_wrap.ensures)
+    let i = c.in_ok-circuit in
+    let h : length (text b f) ≤ length out = leb-true (length (text b f)) (length out) (sym (c.fits.ensures ∙ ap (λ h. leb (length (text b h)) (length out)) i.ensures) ∙ c.if-not-fits.false) in
+    answered (rows b f) (text b f) out (comes_to b f (circuit_passes i.ensures i.circuit.good) c.is_loose.result (subst (λ h. outcome (loose_check b (wires_of h) (gates_of h)) ≡ cond c.is_loose.result (refused (refusal LOOSE)) passed) i.ensures c.is_loose.ensures) false c.if-is_loose.false) h c.put_wrap.result c.put_wrap.new.out
+    (all_written (behind_gates b f w (c.wires-wires.ensures ∙ ap wires_of i.ensures) out h c.put_head-at.ensures c.put_wrap-at.ensures (subst (λ h. Wrote (lines h) c.put_wrap-at.result c.put_wrap-at.new.out c.put_gates-at.result c.put_gates-at.new.out) i.ensures c.put_gates-at.ensures)) c.put_wrap.ensures)

@@ -1,40 +1,24 @@
-use native.Mathlib.Omega.{arith}
-use mathlib.Core.Path.{refl}
+use mathlib.Core.Path.{refl, ap, ◌∙◌}
 use Rattle.circuit.specs.File.{gates_of}
-use Rattle.circuit.specs.Bytes.{Bytes}
-use Rattle.circuit.proofs.Callers.{good_file}
+use Rattle.circuit.specs.Working.{said_gates}
 use Rattle.circuit.proofs.Parts.{wrote_same}
 use Rattle.circuit.proofs.Walks.{writing_starts, writing_room, writing_goes_on, writing_ends}
 use Rattle.listing.proofs.Loops.{stays, line, lines_written}
 use Rattle.listing.proofs.put_gates.Goals as goal
 
-pub loop-i-init : goal.loop-i-init
-loop-i-init c =
+pub loop-gate-init : goal.loop-gate-init
+loop-gate-init c =
     let a = c.args in
-    let f = a.file.now in
-    writing_starts stays line f tt a.at a.out.now (rw (lines_written (gates_of f)) c.requires.file_in_bounds)
+    let gs = gates_of a.circuit.now.file.now in
+    writing_starts stays gs tt line a.at a.out.now (ap (λ s. said_gates s.left.now) c.into_iter-gate-iterator.ensures.into_iter_gives ∙ c.gates-gate-items.ensures) (rw (lines_written gs) c.requires)
 
 pub put_gate-next-requires : goal.put_gate-next-requires
-put_gate-next-requires c =
-    let l = c.loop-i in
-    let a = c.args in
-    let f = a.file.now in
-    let bytes : Bytes f = λ j. (c.type_inv.file j).fits in
-    writing_room f bytes (good_file 0 f c.requires.file_value.0) l.i c.good_gate.result (omega arith) c.good_gate.ensures stays tt tt line a.at a.out.now l.next l.out l.invariant
+put_gate-next-requires c = writing_room stays (gates_of c.args.circuit.now.file.now) tt line c.args.at c.args.out.now tt c.in-Some.ensures.steps c.loop-gate.invariant
 
-pub loop-i-preserved : goal.loop-i-preserved
-loop-i-preserved c =
-    let l = c.loop-i in
-    let a = c.args in
-    let f = a.file.now in
-    let bytes : Bytes f = λ j. (c.type_inv.file j).fits in
-    let p = c.put_gate-next in
-    writing_goes_on f bytes (good_file 0 f c.requires.file_value.0) l.i c.good_gate.result (omega arith) c.good_gate.ensures stays tt tt line a.at a.out.now l.next l.out l.invariant tt p.result p.new.out refl p.ensures
+pub loop-gate-preserved : goal.loop-gate-preserved
+loop-gate-preserved c = writing_goes_on stays (gates_of c.args.circuit.now.file.now) tt line c.args.at c.args.out.now tt c.in-Some.ensures.steps c.loop-gate.invariant refl c.put_gate-next.ensures
 
 pub returns : goal.returns
 returns c =
-    let l = c.loop-i in
-    let a = c.args in
-    let f = a.file.now in
-    let bytes : Bytes f = λ j. (c.type_inv.file j).fits in
-    wrote_same (lines_written (gates_of f)) (writing_ends f bytes (good_file 0 f c.requires.file_value.0) l.i (omega arith) stays tt tt line a.at a.out.now l.next l.out l.invariant)
+    let gs = gates_of c.args.circuit.now.file.now in
+    wrote_same (lines_written gs) (writing_ends stays gs tt line c.args.at c.args.out.now tt c.in-None.ensures.steps.0 c.loop-gate.invariant)

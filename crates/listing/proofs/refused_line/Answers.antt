@@ -17,7 +17,7 @@ use Rattle.listing.proofs.refused_line.Goals as goal
 pub returns-then-out-digits : goal.returns-then-out-digits
 returns-then-out-digits c =
     let a = c.args in
-    room_fails [] (refused_line a.number) a.out.now (reaches [] passed refl) (omega (arith, refused_long a.number, c.digits.ensures.0, c.if-out-digits.true)) c.by.result c.by.ensures
+    room_fails [] (refused_line a.number) a.out.now (reaches [] passed refl) (omega (arith, refused_long a.number, c.digits.ensures.0, c.if-out-digits.true)) c.into.result c.into.ensures
 
 pub returns : goal.returns
 returns c =
