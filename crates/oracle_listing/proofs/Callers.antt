@@ -8,6 +8,7 @@ use mathlib.Core.List.{List, [], ◌∷◌, ◌++◌}
 use lib.ListN.{length, drop}
 use lib.Pow.{pow_mono}
 use Rattle.refusal.specs.declared.Refusal.{Refusal}
+use Rattle.refusal.specs.Names.{number_of}
 use Rattle.refusal.specs.Checks.{passed, refused, outcome, room_check}
 use Rattle.refusal.proofs.Contracts.{meets_values, meets_refusal, when_passed}
 use Rattle.refusal.proofs.Outcomes.{reaches, either}
@@ -58,11 +59,11 @@ module _ (n : ℕ) (t : List ℕ) where
   pub printed_text : outcome (table_checks n t) ≡ passed → printed n t ≡ oracle_text n t
   printed_text e = rw e
 
-  pub printed_line : (r : Refusal) → outcome (table_checks n t) ≡ refused r → printed n t ≡ refused_line r.number
+  pub printed_line : (r : Refusal) → outcome (table_checks n t) ≡ refused r → printed n t ≡ refused_line (number_of r.cause)
   printed_line r e = rw e
 
-  line_short : (r : Refusal) → outcome (table_checks n t) ≡ refused r → length (refused_line r.number) ≤ 65536
-  line_short r e = let k = table_refusal n t r e in omega (arith, refused_long r.number, one_digit r.number (omega arith))
+  line_short : (r : Refusal) → outcome (table_checks n t) ≡ refused r → length (refused_line (number_of r.cause)) ≤ 65536
+  line_short r e = let k = table_refusal n t r e in omega (arith, refused_long (number_of r.cause), one_digit (number_of r.cause) (omega arith))
 
   printed_short : length (printed n t) ≤ 65536
   printed_short = by (either (outcome (table_checks n t)))

@@ -5,6 +5,7 @@ use mathlib.Core.Path.{◌≡◌, refl, ap₂, subst, ◌∙◌}
 use mathlib.Core.List.{List, [], ◌∷◌}
 use lib.ListN.{length, take}
 use lib.Seq.{get_or-take}
+use Rattle.refusal.specs.Names.{number_of}
 use Rattle.refusal.specs.Checks.{Outcome, settle, room_check}
 use Rattle.refusal.proofs.Cuts.{carried, meets_whole}
 use Rattle.table.specs.Table.{table_checks}
@@ -34,7 +35,7 @@ module _ (n : ℕ) (t : List ℕ) where
   printed_whole : printed n (take 33 t) ≡ printed n t
   printed_whole =
       carried (table_checks n) (take 33 t) t (table_cut n t) (table_whole n t)
-      (λ (o : Outcome) u. printed n (take 33 t) ≡ settle o (λ r. refused_line r.number) (oracle_text n u)) (λ r e. e) refl
+      (λ (o : Outcome) u. printed n (take 33 t) ≡ settle o (λ r. refused_line (number_of r.cause)) (oracle_text n u)) (λ r e. e) refl
 
 module _ (input : List ℕ) where
   pub oracle_whole : (out : List ℕ) (a : Result ℕ Refusal) (left : List ℕ) → ListsOracle (variables_of (take 34 input)) (table_of (take 34 input)) out a left → ListsOracle (variables_of input) (table_of input) out a left

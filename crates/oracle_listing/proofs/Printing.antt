@@ -6,7 +6,7 @@ use mathlib.Core.Logic.{◌⊎◌, ⊎_elim}
 use mathlib.Core.List.{List, [], ◌∷◌}
 use lib.ListN.{length}
 use Rattle.refusal.specs.declared.Refusal.{Refusal}
-use Rattle.refusal.specs.Names.{ROOM}
+use Rattle.refusal.specs.Names.{number_of, ROOM}
 use Rattle.refusal.specs.Checks.{Outcome, passed, refused, outcome, room_check}
 use Rattle.refusal.specs.Contract.{Meets}
 use Rattle.refusal.proofs.Outcomes.{then_passed, parts_pass, part_refuses}
@@ -35,14 +35,14 @@ module _ (n : ℕ) (t before : List ℕ) (a : Result ℕ Refusal) (after : List 
     refuses : (outcome (table_checks n t) ≡ refused r) ⊎ ((outcome (table_checks n t) ≡ passed) × (outcome (room_check (length before) (length (oracle_text n t))) ≡ refused r))
     refuses = part_refuses (table_checks n t) (room_check (length before) (length (oracle_text n t))) r (oracle_refuses n t before a after m r e).0
 
-    pub no_room : r.number ≡ ROOM → Writes (printed n t) before (Err r) after
+    pub no_room : r.cause ≡ ROOM → Writes (printed n t) before (Err r) after
     no_room h =
         subst (λ (b : Result ℕ Refusal). Writes (printed n t) before b after) e
-        (as_text (⊎_elim (λ q. absurd (omega (arith, table_refusal n t r q))) (λ q. q.0) refuses))
+        (as_text (⊎_elim (λ q. absurd (omega (arith, table_refusal n t r q, ap number_of h))) (λ q. q.0) refuses))
 
-    pub line_printed : (r.number ≡ ROOM → ⊥) → (b : Result ℕ Refusal) (left : List ℕ) → Writes (refused_line r.number) after b left → Writes (printed n t) before b left
+    pub line_printed : (r.cause ≡ ROOM → ⊥) → (b : Result ℕ Refusal) (left : List ℕ) → Writes (refused_line (number_of r.cause)) after b left → Writes (printed n t) before b left
     line_printed h b left w =
         let refusing : outcome (table_checks n t) ≡ refused r =
-        ⊎_elim (λ q. q) (λ q. absurd (h (ap (λ (s : Refusal). s.number) (room_refusal (length before) (length (oracle_text n t)) r q.1)))) refuses in
+        ⊎_elim (λ q. q) (λ q. absurd (h (ap (λ (s : Refusal). s.cause) (room_refusal (length before) (length (oracle_text n t)) r q.1)))) refuses in
         subst (λ (x : List ℕ). Writes (printed n t) x b left) (oracle_refuses n t before a after m r e).1
         (subst (λ (text : List ℕ). Writes text after b left) (sym (printed_line n t r refusing)) w)

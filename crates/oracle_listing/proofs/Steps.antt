@@ -52,8 +52,8 @@ module _ (f lent : List ℕ) (bytes : Bytes f) (long : 8200 ≡ length lent) (a 
   pub file_refuses : (r : Refusal) → a ≡ Err r → outcome (file_checks 0 f) ≡ refused r
   file_refuses r e = sym only_file ∙ (fold_refuses f lent a after m r e).0
 
-  pub fold_ready : (l b s : ℕ) → a ≡ File l b s → Ready (file_checks 0 f) (folded_file f) after l
-  fold_ready l b s e = let v = fold_answers f lent a after m l b s e in ready (file_checks 0 f) (folded_file f) lent after l (sym only_file ∙ v.passes) v.long v.writes
+  pub fold_ready : (d : Folded) → a ≡ Ok d → Ready (file_checks 0 f) (folded_file f) after d.length
+  fold_ready d e = let v = fold_answers f lent a after m d e in ready (file_checks 0 f) (folded_file f) lent after d.length (sym only_file ∙ v.passes) v.long v.writes
 
 -- building, with room for the largest
 module _ (n : ℕ) (t lent : List ℕ) (long : 4096 ≡ length lent) (a : Result ℕ Refusal) (after : List ℕ) (m : Builds n t lent a after) where

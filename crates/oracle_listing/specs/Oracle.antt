@@ -1,5 +1,6 @@
 -- 01, "Listing": what the listing program prints for the bytes that it reads.
 use Rattle.std.specs.Prelude.{ℕ, true, List, [], ◌∷◌, ◌++◌, length, get_or, drop}
+use Rattle.refusal.specs.Names.{number_of}
 use Rattle.refusal.specs.Checks.{Check, outcome, settle, room_check}
 use Rattle.refusal.specs.Contract.{Meets}
 use Rattle.table.specs.Table.{table_checks}
@@ -35,7 +36,7 @@ ListsOracle n t out answer after =
 
 -- "prints the wrapped listing of the folded circuit, or `refused N` and a newline"
 abbrev pub printed : ℕ → List ℕ → List ℕ
-printed n t = settle (outcome (table_checks n t)) (λ r. refused_line r.number) (oracle_text n t)
+printed n t = settle (outcome (table_checks n t)) (λ r. refused_line (number_of r.cause)) (oracle_text n t)
 
 -- what the listing program prints for an input
 abbrev pub printout : List ℕ → List ℕ

@@ -8,7 +8,7 @@ use Rattle.oracle_listing.proofs.oracle_listing.Goals as goal
 pub returns-then-input-eq0 : goal.returns-then-input-eq0
 returns-then-input-eq0 c =
     let a = c.args in
-    empty_refused a.input.now c.if-input-eq0.true a.out.now c.by.result c.by.ensures
+    empty_refused a.input.now c.if-input-eq0.true a.out.now c.into.result c.into.ensures
 
 pub returns : goal.returns
 returns c =
