@@ -10,7 +10,7 @@ use refusal::Reason;
 pub(crate) fn sixteen_bits(high: u8, low: u8) -> u16
     ensures { result ≡ high * 256 + low }
 {
-    (high as u16) * 256 + (low as u16)
+    u16::from_be_bytes([high, low])
 }
 
 fn bad_kind(version: u16, kind: u8) -> bool

@@ -27,7 +27,7 @@ fn first_bad(file: &[u8], version: u16, gates: usize) -> usize
 fn mark(high: u8, middle: u8, low: u8) -> u32
     ensures { result ≡ (high * 256 + middle) * 256 + low }
 {
-    ((high as u32) * 256 + (middle as u32)) * 256 + (low as u32)
+    u32::from_be_bytes([0, high, middle, low])
 }
 
 // The refusal for the bad gate at position `i`, with the decoder's reason.
