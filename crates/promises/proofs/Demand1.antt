@@ -7,25 +7,25 @@ use mathlib.Core.Bool.{Bool}
 use mathlib.Core.List.{List, []}
 use lib.ListN.{length}
 use lib.IntN.{ℤ}
+use Rattle.std.specs.Prelude.{Result}
 use Rattle.refusal.specs.declared.Refusal.{Refusal}
 use Rattle.refusal.specs.Checks.{Check, Outcome, passed, refused, outcome, settle, AllFail, room_check}
 use Rattle.refusal.specs.Contract.{Said, values, said_of, Says, Meets}
 use Rattle.refusal.proofs.Passed.{passed_fail, fail_passed}
 use Rattle.refusal.proofs.Contracts.{says_refused, says_values, said_refused}
-use Rattle.std.specs.Prelude.{Result}
-use Rattle.circuit.specs.declared.Header.{Header}
 use Rattle.running.specs.declared.Ran.{Ran}
 use Rattle.running.specs.declared.Counted.{Counted}
-use Rattle.fold.specs.declared.Folded.{Folded}
-use Rattle.cancel.specs.declared.Cancelled.{Cancelled}
-use Rattle.verdict.specs.declared.Verdict.{Verdict}
 use Rattle.table.specs.Table.{table_checks, checked_says, Checks}
 use Rattle.spectrum.specs.Spectrum.{spectrum_checks, transformed_says, Transforms}
+use Rattle.circuit.specs.declared.Header.{Header}
 use Rattle.circuit.specs.File.{file_checks, reading_says, ReadsSide, Reads}
 use Rattle.running.specs.Run.{run_checks, ran_says, Runs, counted_says, Counts}
 use Rattle.build.specs.Construction.{build_checks, built_says, Builds}
+use Rattle.fold.specs.declared.Folded.{Folded}
 use Rattle.fold.specs.Fold.{fold_checks, folded_says, Folds}
+use Rattle.cancel.specs.declared.Cancelled.{Cancelled}
 use Rattle.cancel.specs.Cancel.{cancel_checks, cancelled_says, Cancels}
+use Rattle.verdict.specs.declared.Verdict.{Verdict}
 use Rattle.verdict.specs.Judging.{compare_checks, judge_checks, compared_says, Compares, Judges}
 use Rattle.listing.specs.Listing.{list_checks, listed_says, Lists, Writes}
 use Rattle.oracle_listing.specs.Oracle.{oracle_checks, ListsOracle, printout, Prints}

@@ -6,17 +6,16 @@ use mathlib.Core.Path.{◌≡◌, refl, ap, ◌∙◌}
 use mathlib.Core.List.{List, ◌++◌}
 use lib.ListN.{length, get_or, drop, get_or-append}
 use lib.IntN.{ℤ, pos}
+use Rattle.std.specs.Prelude.{Result, Ok}
 use Rattle.numbers.proofs.Lists.{get_or-list}
+use Rattle.refusal.specs.declared.Refusal.{Refusal}
 use Rattle.refusal.specs.Checks.{passed, outcome}
 use Rattle.refusal.proofs.Outcomes.{parts_pass}
 use Rattle.refusal.proofs.Contracts.{when_passed}
 use Rattle.table.specs.Table.{table_checks, value_at}
 use Rattle.table.proofs.Callers.{good_variables}
-use Rattle.std.specs.Prelude.{Result, Ok}
-use Rattle.refusal.specs.declared.Refusal.{Refusal}
 use Rattle.running.specs.declared.Ran.{Ran}
 use Rattle.running.specs.declared.Counted.{Counted}
-use Rattle.fold.specs.declared.Folded.{Folded}
 use Rattle.spectrum.specs.Spectrum.{coefficient, spectrum_of, spectrum_checks, transformed_says, Transforms}
 use Rattle.spectrum.proofs.Callers.{transformed_distinct, length-spectrum}
 use Rattle.circuit.specs.File.{version_of, wires_of, count_of, gates_of, file_checks}
@@ -26,6 +25,7 @@ use Rattle.running.proofs.Callers.{ran_distinct, counted_distinct}
 use Rattle.build.specs.Construction.{construction, built_file, build_checks, built_says, Builds}
 use Rattle.build.proofs.Files.{built_version, built_wires, built_count, built_gates}
 use Rattle.build.proofs.Callers.{built_distinct}
+use Rattle.fold.specs.declared.Folded.{Folded}
 use Rattle.fold.specs.Fold.{folded, folded_file, fold_checks, folded_says, Folds}
 use Rattle.fold.proofs.Files.{same_version, same_wires, gates_of_folded}
 use Rattle.fold.proofs.Scores.{score_falls}

@@ -8,7 +8,9 @@ use mathlib.Core.Logic.{inl, inr}
 use mathlib.Core.List.{List}
 use lib.ListN.{length}
 use lib.Pow.{pow_pos, pow-add, shr_lt}
+use Rattle.std.specs.Prelude.{Result, Ok}
 use Rattle.numbers.specs.Bits.{bit}
+use Rattle.refusal.specs.declared.Refusal.{Refusal}
 use Rattle.refusal.specs.Checks.{passed, outcome}
 use Rattle.table.specs.Table.{table_checks, value_at}
 use Rattle.table.proofs.Callers.{good_variables}
@@ -23,10 +25,8 @@ use Rattle.build.proofs.Oracle.{construction_run}
 use Rattle.build.proofs.Circuits.{sound_construction}
 use Rattle.fold.specs.Fold.{folded_file}
 use Rattle.fold.proofs.Files.{same_wires, folded_passes, file_end, file_phase, file_twice}
-use Rattle.verdict.specs.declared.Verdict.TheVariants.{Same, Different}
-use Rattle.std.specs.Prelude.{Result, Ok}
-use Rattle.refusal.specs.declared.Refusal.{Refusal}
 use Rattle.verdict.specs.declared.Verdict.{Verdict}
+use Rattle.verdict.specs.declared.Verdict.TheVariants.{Same, Different}
 use Rattle.verdict.specs.Verdicts.{circuit, ideal, Agree}
 use Rattle.verdict.specs.Judging.{Compares, Judges}
 use Rattle.verdict.proofs.Callers.{compare_passes, judge_passes}

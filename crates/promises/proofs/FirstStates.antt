@@ -10,10 +10,12 @@ use borrow.Author.Tests.{lt-ltb, le-ltb, ne_eqb}
 use lib.Dec.{ltb, eqb}
 use lib.ListN.{replicate, length-replicate}
 use lib.Pow.{pow-add}
+use Rattle.std.specs.Prelude.{Result, Ok}
 use Rattle.numbers.specs.Bits.{bit}
 use Rattle.numbers.specs.Sums.{sum}
 use Rattle.numbers.specs.Turn.{difference}
 use Rattle.numbers.proofs.Search.{Lowest}
+use Rattle.refusal.specs.declared.Refusal.{Refusal}
 use Rattle.refusal.specs.Checks.{passed, outcome}
 use Rattle.table.specs.Table.{value_at}
 use Rattle.circuit.specs.Gates.{bytes_of, gates_from}
@@ -26,8 +28,6 @@ use Rattle.build.proofs.Circuits.{sound_construction, admitted_construction}
 use Rattle.build.proofs.Files.{construction_count}
 use Rattle.verdict.specs.declared.Verdict.{Verdict}
 use Rattle.verdict.specs.declared.Verdict.TheVariants.{Same, Different}
-use Rattle.std.specs.Prelude.{Result, Ok}
-use Rattle.refusal.specs.declared.Refusal.{Refusal}
 use Rattle.verdict.specs.Verdicts.{Side, circuit, ideal, verdict, Agree}
 use Rattle.verdict.specs.Judging.{Compares, Judges}
 use Rattle.verdict.proofs.Lowest.{lowest_part, verdict_found}

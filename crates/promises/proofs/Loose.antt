@@ -7,6 +7,7 @@ use mathlib.Core.Bool.{Bool, true, false}
 use mathlib.Core.Logic.{◌↔◌, ◌⊎◌, inl, inr}
 use mathlib.Core.List.{List, [], ◌∷◌, ◌++◌}
 use lib.ListN.{length, get_or}
+use Rattle.std.specs.Prelude.{Result}
 use Rattle.refusal.specs.declared.Refusal.{Refusal}
 use Rattle.refusal.specs.Names.{number_of, refusal, ROOM, LOOSE}
 use Rattle.refusal.specs.Checks.{Check, Outcome, passed, refused, outcome, room_check}
@@ -26,7 +27,6 @@ use Rattle.build.specs.Construction.{built_file}
 use Rattle.build.proofs.Files.{built_passes, built_back}
 use Rattle.fold.specs.Fold.{folded_file}
 use Rattle.fold.proofs.Files.{same_wires, file_loose}
-use Rattle.std.specs.Prelude.{Result}
 use Rattle.listing.specs.Text.{decimal_from}
 use Rattle.listing.specs.Listing.{head_lines, listing_of, listing_of_file, loose_check, list_checks, listed_says, Lists, refused_line}
 use Rattle.listing.proofs.Decimals.{one_digit}

@@ -4,14 +4,14 @@ use native.Mathlib.Omega.{arith}
 use mathlib.Core.Path.{◌≡◌, refl, sym, ap, ◌∙◌}
 use mathlib.Core.List.{List, [], ◌∷◌, ◌++◌}
 use lib.ListN.{length, get_or, drop, replicate}
+use Rattle.std.specs.Prelude.{Result, Ok}
+use Rattle.refusal.specs.declared.Refusal.{Refusal}
 use Rattle.refusal.specs.Checks.{outcome}
 use Rattle.refusal.specs.Contract.{values}
 use Rattle.circuit.specs.declared.Gate.{Gate}
 use Rattle.circuit.specs.declared.Gate.TheVariants.{Cnot}
 use Rattle.circuit.specs.Gates.{decoded, first_bad, gates_from, bytes_of}
 use Rattle.circuit.specs.File.{version_of, wires_of, gates_of, file_of}
-use Rattle.std.specs.Prelude.{Result, Ok}
-use Rattle.refusal.specs.declared.Refusal.{Refusal}
 use Rattle.cancel.specs.declared.Cancelled.{Cancelled}
 use Rattle.cancel.specs.Cancel.{paired, removed, cancelled, steps, cancelled_says, Cancels}
 use Rattle.promises.specs.Cases.{empty}

@@ -4,6 +4,7 @@ use mathlib.Core.Path.{◌≡◌, refl, ap, ap₂, ◌∙◌}
 use mathlib.Core.Logic.{inl, inr}
 use mathlib.Core.List.{List, [], ◌∷◌, ◌++◌}
 use lib.ListN.{length, drop}
+use Rattle.std.specs.Prelude.{Result, Ok}
 use Rattle.refusal.specs.declared.Refusal.{Refusal}
 use Rattle.refusal.specs.Names.{refusal, ROOM, ALLOW}
 use Rattle.refusal.specs.Checks.{passed, refused, outcome, room_check}
@@ -17,10 +18,9 @@ use Rattle.circuit.proofs.Files.{file_written}
 use Rattle.fold.specs.Fold.{folded_file}
 use Rattle.fold.proofs.Files.{folded_passes, folded_bytes}
 use Rattle.verdict.specs.declared.Verdict.TheVariants.{Same}
-use Rattle.std.specs.Prelude.{Result, Ok}
 use Rattle.verdict.specs.declared.Verdict.{Verdict}
-use Rattle.cancel.specs.declared.Cancelled.{Cancelled}
 use Rattle.verdict.specs.Judging.{Compares}
+use Rattle.cancel.specs.declared.Cancelled.{Cancelled}
 use Rattle.cancel.specs.Cancel.{steps, cancelled_file, most_allowed, allow_check, cancel_checks, cancelled_says, Cancels}
 use Rattle.cancel.specs.Sentences.{Pair}
 use Rattle.cancel.proofs.Sentences.{cancelling_only}

@@ -6,30 +6,30 @@ use mathlib.Core.Bool.{Bool}
 use mathlib.Core.List.{List, [], ◌∷◌, ◌++◌}
 use lib.ListN.{length, get_or}
 use lib.IntN.{ℤ}
-use Rattle.refusal.specs.declared.Cause.{Cause}
+use Rattle.std.specs.Prelude.{Result}
 use Rattle.refusal.specs.declared.Refusal.{Refusal}
+use Rattle.refusal.specs.declared.Cause.{Cause}
 use Rattle.refusal.specs.Names.{reason_said, refusal_at, bad_gate, refusal, VARS, TABLE, PAD, SHORT, MARK, VERSION, WIRES, COUNT, LENGTH, GATE, STATE, UNLIKE, ROOM, LOOSE, ALLOW}
 use Rattle.refusal.specs.Checks.{Check, check, at_least, Outcome, refused, outcome, room_check}
 use Rattle.refusal.specs.Contract.{Said, said_of, Says}
 use Rattle.refusal.proofs.Outcomes.{part_refuses}
 use Rattle.refusal.proofs.Given.{given_where, given_by}
 use Rattle.refusal.proofs.Contracts.{same_refusal}
-use Rattle.std.specs.Prelude.{Result}
-use Rattle.circuit.specs.declared.Header.{Header}
 use Rattle.running.specs.declared.Ran.{Ran}
 use Rattle.running.specs.declared.Counted.{Counted}
-use Rattle.fold.specs.declared.Folded.{Folded}
-use Rattle.cancel.specs.declared.Cancelled.{Cancelled}
-use Rattle.verdict.specs.declared.Verdict.{Verdict}
 use Rattle.table.specs.Table.{table_checks, checked_says, Checks}
 use Rattle.spectrum.specs.Spectrum.{transformed_says, Transforms}
+use Rattle.circuit.specs.declared.Header.{Header}
 use Rattle.circuit.specs.Gates.{Decoded, reason_of}
 use Rattle.circuit.specs.File.{wires_of, count_of, gates_of, bad_of, reason_at, file_checks, reading_says, ReadsSide, Reads}
 use Rattle.circuit.proofs.FirstBad.{first_is_bad, before_is_good}
 use Rattle.running.specs.Run.{run_checks, ran_says, Runs, counted_says, Counts}
 use Rattle.build.specs.Construction.{built_says, Builds}
+use Rattle.fold.specs.declared.Folded.{Folded}
 use Rattle.fold.specs.Fold.{folded_file, fold_checks, folded_says, Folds}
+use Rattle.cancel.specs.declared.Cancelled.{Cancelled}
 use Rattle.cancel.specs.Cancel.{cancelled_file, allow_check, cancel_checks, cancelled_says, Cancels}
+use Rattle.verdict.specs.declared.Verdict.{Verdict}
 use Rattle.verdict.specs.Judging.{work_checks, compare_checks, judge_checks, compared_says, Compares, Judges}
 use Rattle.listing.specs.Listing.{listing_of_file, loose_check, list_checks, listed_says, Lists, Writes}
 use Rattle.listing.proofs.Wrapping.{loose_given}

@@ -4,6 +4,8 @@ use mathlib.Core.Path.{◌≡◌, refl, sym, ap, ◌∙◌}
 use mathlib.Core.Logic.{inl, inr}
 use mathlib.Core.List.{List}
 use lib.ListN.{length}
+use Rattle.std.specs.Prelude.{Result, Ok}
+use Rattle.refusal.specs.declared.Refusal.{Refusal}
 use Rattle.refusal.specs.Checks.{passed, outcome}
 use Rattle.table.specs.Table.{table_checks, value_at}
 use Rattle.circuit.specs.declared.Gate.{Gate}
@@ -12,8 +14,6 @@ use Rattle.circuit.specs.File.{wires_of, gates_of, file_checks}
 use Rattle.running.specs.Run.{end_from}
 use Rattle.verdict.specs.declared.Verdict.{Verdict}
 use Rattle.verdict.specs.declared.Verdict.TheVariants.{Same, Different}
-use Rattle.std.specs.Prelude.{Result, Ok}
-use Rattle.refusal.specs.declared.Refusal.{Refusal}
 use Rattle.coefficients.specs.Coefficients.{listed_start, coefficient}
 use Rattle.verdict.specs.Verdicts.{Side, circuit, ideal, verdict, Agree, Named}
 use Rattle.verdict.specs.Judging.{compare_checks, judge_checks, Compares, Judges}

@@ -9,10 +9,12 @@ use lib.Count.{ones}
 use lib.ListN.{length, set, take, get_or-eq_default}
 use lib.Seq.{get_or-set_same, get_or-set_other, set_out}
 use lib.Bits.{bit_xor, xor_self}
+use Rattle.std.specs.Prelude.{Result, Ok}
 use Rattle.numbers.specs.Bits.{bit, equal, subset}
 use Rattle.numbers.proofs.Lists.{length-list, get_or-list}
 use Rattle.numbers.proofs.Parity.{equal_yes}
 use Rattle.numbers.proofs.Wires.{bit_own}
+use Rattle.refusal.specs.declared.Refusal.{Refusal}
 use Rattle.refusal.specs.Checks.{passed, outcome}
 use Rattle.circuit.specs.declared.Gate.{Gate}
 use Rattle.circuit.specs.declared.Gate.TheVariants.{Cnot, Phase, Inverter}
@@ -27,8 +29,6 @@ use Rattle.running.specs.Groups.{same_held, group_total, held_before, earlier}
 use Rattle.fold.specs.Fold.{kept, first_only, becomes, folded_from, folded}
 use Rattle.coefficients.specs.Coefficients.{sign, coefficient}
 use Rattle.verdict.specs.declared.Verdict.TheVariants.{Different}
-use Rattle.std.specs.Prelude.{Result, Ok}
-use Rattle.refusal.specs.declared.Refusal.{Refusal}
 use Rattle.verdict.specs.declared.Verdict.{Verdict}
 use Rattle.verdict.specs.Judging.{Compares}
 use Rattle.promises.specs.MasksAlone.{total_of_mask, earlier_of_mask, becomes_by_mask, folded_by_mask_from, folded_by_mask, coefficient_by_mask}

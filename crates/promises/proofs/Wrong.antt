@@ -9,7 +9,9 @@ use mathlib.Core.List.{List, [], ◌∷◌, ◌++◌}
 use lib.ListN.{length, get_or, replicate, length-replicate}
 use lib.Count.{ones}
 use lib.IntN.{pos}
+use Rattle.std.specs.Prelude.{Result, Ok, Err, Some}
 use Rattle.numbers.specs.Bits.{subset}
+use Rattle.refusal.specs.declared.Refusal.{Refusal}
 use Rattle.refusal.specs.Names.{refusal, bad_gate, LOOSE}
 use Rattle.refusal.specs.Checks.{Check, passed, outcome}
 use Rattle.refusal.specs.Contract.{Said, values, Says}
@@ -18,20 +20,18 @@ use Rattle.refusal.proofs.Contracts.{says_refused}
 use Rattle.table.specs.Table.{table_checks, checked_says}
 use Rattle.spectrum.specs.Spectrum.{spectrum_checks, transformed_says}
 use Rattle.circuit.specs.declared.Gate.TheVariants.{Cnot, Phase, Inverter}
-use Rattle.std.specs.Prelude.{Result, Ok, Err, Some}
 use Rattle.refusal.specs.declared.Reason.TheVariants.{Kind, Equal}
-use Rattle.refusal.specs.declared.Refusal.{Refusal}
-use Rattle.running.specs.declared.Counted.{Counted}
-use Rattle.fold.specs.declared.Folded.{Folded}
 use Rattle.circuit.specs.Gates.{decoded, first_bad, gates_from, bytes_of}
 use Rattle.circuit.specs.Working.{AllSound, AllAdmitted}
 use Rattle.circuit.specs.File.{header_bytes, gates_of, file_of, file_checks, reading_says, Reads}
 use Rattle.circuit.proofs.Files.{list_written}
+use Rattle.running.specs.declared.Counted.{Counted}
 use Rattle.running.specs.Run.{end_from, total_from, cnots, phases, free_turn, scores, score_by, inverters, run_checks, ran_says, counted_says, Counts}
 use Rattle.running.proofs.Counts.{multiple_is_free, free_is_multiple}
 use Rattle.running.proofs.Callers.{count_answers}
 use Rattle.running.specs.Masks.{held_from, sum_met}
 use Rattle.build.specs.Construction.{build_checks, built_says}
+use Rattle.fold.specs.declared.Folded.{Folded}
 use Rattle.fold.specs.Fold.{folded_from, fold_checks, folded_says, Folds}
 use Rattle.cancel.specs.Cancel.{cancelled, cancel_checks, cancelled_says}
 use Rattle.verdict.specs.declared.Verdict.{Verdict}

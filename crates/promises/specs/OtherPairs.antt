@@ -1,9 +1,9 @@
 -- Rules that 02 §9 does not name: what a program that follows one of them leaves.
 use Rattle.std.specs.Prelude.{ℕ, zero, suc, ◌*◌, ◌≡◌, Bool, false, cond, List, [], ◌∷◌, ◌++◌, length, drop, Result, Ok}
+use Rattle.refusal.specs.declared.Refusal.{Refusal}
 use Rattle.circuit.specs.declared.Gate.{Gate}
 use Rattle.circuit.specs.declared.Gate.TheVariants.{Cnot, Phase, Inverter}
 use Rattle.circuit.specs.File.{version_of, wires_of, gates_of, file_of}
-use Rattle.refusal.specs.declared.Refusal.{Refusal}
 use Rattle.cancel.specs.declared.Cancelled.{Cancelled}
 use Rattle.cancel.specs.Cancel.{twins, begins, paired, steps}
 

@@ -1,13 +1,13 @@
 -- 02 §9, "Cancel CNOT pairs.", as a statement about the operation: its sentences and 02 §12's, and nothing of how the result is found.
 use Rattle.std.specs.Prelude.{ℕ, ◌+◌, ◌*◌, ◌^◌, ◌≤◌, ◌≡◌, List, ◌++◌, length, drop, Result, Ok}
+use Rattle.refusal.specs.declared.Refusal.{Refusal}
 use Rattle.refusal.specs.Checks.{passed, outcome}
 use Rattle.circuit.specs.Bytes.{Bytes}
 use Rattle.circuit.specs.File.{version_of, wires_of, count_of, gates_of, file_checks}
 use Rattle.verdict.specs.declared.Verdict.TheVariants.{Same}
-use Rattle.refusal.specs.declared.Refusal.{Refusal}
 use Rattle.verdict.specs.declared.Verdict.{Verdict}
-use Rattle.cancel.specs.declared.Cancelled.{Cancelled}
 use Rattle.verdict.specs.Judging.{Compares}
+use Rattle.cancel.specs.declared.Cancelled.{Cancelled}
 use Rattle.cancel.specs.Sentences.{Cancelling, others_of}
 
 -- of a call that passes its checks: what it is given, what it answers, and the slice afterwards

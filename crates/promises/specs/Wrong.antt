@@ -4,13 +4,11 @@ use Rattle.numbers.specs.Search.{least}
 use Rattle.refusal.specs.declared.Refusal.{Refusal}
 use Rattle.refusal.specs.Names.{reason_said, refusal, GATE, LOOSE}
 use Rattle.refusal.specs.Contract.{Said}
-use Rattle.circuit.specs.declared.Header.{Header}
 use Rattle.running.specs.declared.Ran.{Ran}
 use Rattle.running.specs.declared.Counted.{Counted}
-use Rattle.fold.specs.declared.Folded.{Folded}
-use Rattle.cancel.specs.declared.Cancelled.{Cancelled}
 use Rattle.table.specs.Table.{value_at, Checks}
 use Rattle.spectrum.specs.Spectrum.{Transforms}
+use Rattle.circuit.specs.declared.Header.{Header}
 use Rattle.circuit.specs.declared.Gate.{Gate}
 use Rattle.circuit.specs.declared.Gate.TheVariants.{Cnot, Phase, Inverter}
 use Rattle.circuit.specs.Gates.{decoded_at, reason_of}
@@ -20,7 +18,9 @@ use Rattle.running.specs.Masks.{Held, held, held_at, own_held, held_after}
 use Rattle.build.specs.Construction.{Builds}
 use Rattle.running.specs.Groups.{same_held, held_before}
 use Rattle.running.specs.Ends.{held_at_end, lowest_loose}
+use Rattle.fold.specs.declared.Folded.{Folded}
 use Rattle.fold.specs.Fold.{becomes, Folds}
+use Rattle.cancel.specs.declared.Cancelled.{Cancelled}
 use Rattle.cancel.specs.Cancel.{Cancels}
 use Rattle.verdict.specs.declared.Verdict.{Verdict}
 use Rattle.verdict.specs.declared.Verdict.TheVariants.{Same, Different}
