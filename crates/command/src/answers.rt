@@ -42,9 +42,9 @@ pub(crate) fn wrote(rt: &impl Print, length: usize) -> io::Result<()> {
     println!(rt; "wrote {length} bytes")
 }
 
-// The first numbers of a row, one a line.
-pub(crate) fn signed(rt: &impl Print, row: &[i32], entries: usize) -> io::Result<()> {
-    for x in row.iter().take(entries) {
+// The numbers of a row, one a line.
+pub(crate) fn signed(rt: &impl Print, row: &[i32]) -> io::Result<()> {
+    for x in row {
         println!(rt; "{x}")?;
     }
     Ok(())

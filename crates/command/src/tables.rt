@@ -25,7 +25,7 @@ fn spectrum(rt: &impl Print, n: u8, table: &[u8]) -> io::Result<()> {
     let mut out = [0i32; 256];
     match spectrum::spectrum(n, table, &mut out) {
         Err(r) => answers::refused(rt, r),
-        Ok(entries) => answers::signed(rt, &out, entries),
+        Ok(entries) => answers::signed(rt, &out[..entries]),
     }
 }
 
