@@ -2,7 +2,6 @@
 use Prim.Native.Nat.{ℕ, suc}
 use native.Mathlib.Omega.{arith}
 use mathlib.Core.Path.{◌≡◌, refl, ap, ◌∙◌}
-use mathlib.Core.Bool.{true}
 use mathlib.Core.Logic.{◌⊎◌, inl, inr}
 use mathlib.Core.List.{List, ◌++◌}
 use lib.ListN.{length, get_or, replicate, drop, length-append}
@@ -12,7 +11,8 @@ use Rattle.refusal.specs.Checks.{Check, passed, refused, outcome}
 use Rattle.refusal.specs.Contract.{Said, values, refuses, said_of, Says, Meets}
 use Rattle.refusal.proofs.Outcomes.{either}
 use Rattle.refusal.proofs.Contracts.{passed_values, refused_refusal, when_passed, when_refused}
-use Rattle.refusal.proofs.Numbering.{numbered, refused_numbered}
+use Rattle.refusal.specs.Names.{reason_said}
+use Rattle.refusal.proofs.Numbering.{number_above}
 use Rattle.c_interface.specs.Numbers.{numbers_of, Tells, TellsAnswer}
 
 -- "answer points to six numbers"
@@ -28,16 +28,16 @@ module _ {Answer : Type 0} (said : Answer → Said) (cs : List Check) (vs : List
   told_refusal r e = t.tells ∙ ap numbers_of (refused_refusal said (outcome cs) vs t.answer t.meets r e)
 
   -- "answer[3] what is wrong with it"
-  pub told_reason : (r : Refusal) → outcome cs ≡ refused r → get_or ns 3 0 ≡ r.reason
+  pub told_reason : (r : Refusal) → outcome cs ≡ refused r → get_or ns 3 0 ≡ reason_said r.reason
   told_reason r e = ap (λ l. get_or l 3 0) (told_refusal r e)
 
   -- "answer[0] is 0 on success .. Otherwise answer[0] is the number of a refusal"
-  pub told_passed : numbered cs ≡ true → get_or ns 0 0 ≡ 0 → outcome cs ≡ passed
-  told_passed rows zero = by (either (outcome cs))
+  pub told_passed : get_or ns 0 0 ≡ 0 → outcome cs ≡ passed
+  told_passed zero = by (either (outcome cs))
     where
       by : (outcome cs ≡ passed) ⊎ ((r : Refusal) × (outcome cs ≡ refused r)) → outcome cs ≡ passed
       by (inl p) = p
-      by (inr (r, e)) = absurd (omega (arith, refused_numbered cs rows r e, ap (λ l. get_or l 0 0) (told_refusal r e)))
+      by (inr (r, e)) = absurd (omega (arith, number_above r.cause, ap (λ l. get_or l 0 0) (told_refusal r e)))
 
 -- an operation that is lent a slice tells its answer as one that is lent none
 module _ {Answer Entry : Type 0} (said : Answer → Said) (cs : List Check) (vs : List ℕ) (result before : List Entry) (ns : List ℕ) (after : List Entry) (t : Tells (Meets said (outcome cs) vs result before) said ns after) where

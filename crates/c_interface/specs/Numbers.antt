@@ -1,11 +1,10 @@
 -- An answer as a caller in C finds it: six numbers.
-use Rattle.std.specs.Prelude.{ℕ, ◌≡◌, List, [], ◌∷◌, ◌++◌, take, replicate}
+use Rattle.std.specs.Prelude.{ℕ, ◌≡◌, List, [], ◌∷◌, ◌++◌, take, replicate, Ok, Err}
 use Rattle.refusal.specs.Contract.{Said, values, refuses}
 use Rattle.circuit.specs.declared.Gate.{Gate}
 use Rattle.circuit.specs.declared.Gate.TheVariants.{Cnot, Phase, Inverter}
-use Rattle.circuit.specs.declared.Decoded.{Decoded}
-use Rattle.circuit.specs.declared.Decoded.TheVariants.{Good, Bad}
-use Rattle.circuit.specs.Gates.{reason_number}
+use Rattle.refusal.specs.Names.{reason_number}
+use Rattle.circuit.specs.Gates.{Decoded}
 
 -- 0 and the values that are answered, or a refusal's number, side, position and reason; then zeros
 abbrev pub numbers_of : Said → List ℕ
@@ -31,5 +30,5 @@ gate_numbers p (Phase i a) = 2 ∷ i ∷ a ∷ p ∷ 0 ∷ 0 ∷ []
 gate_numbers p (Inverter i) = 3 ∷ i ∷ 0 ∷ p ∷ 0 ∷ 0 ∷ []
 
 abbrev pub decoded_numbers : Decoded → List ℕ
-decoded_numbers (Good g) = gate_numbers g.position g.gate
-decoded_numbers (Bad x) = 0 ∷ reason_number x ∷ 0 ∷ 0 ∷ 0 ∷ 0 ∷ []
+decoded_numbers (Ok g) = gate_numbers g.position g.gate
+decoded_numbers (Err x) = 0 ∷ reason_number x ∷ 0 ∷ 0 ∷ 0 ∷ 0 ∷ []

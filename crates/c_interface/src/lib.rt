@@ -17,10 +17,12 @@ ghost use Rattle.listing.specs.Listing.{listed_says, Lists};
 ghost use Rattle.oracle_listing.specs.Oracle.{ListsOracle};
 ghost use Rattle.c_interface.specs.Numbers.{Tells, TellsAnswer, decoded_numbers};
 
+use told::told;
+
 pub fn phg_check(n: u8, table: &[u8], answer: &mut [u64; 6])
     ensures { TellsAnswer (Checks n table.now) checked_says answer.new }
 {
-    *answer = told::checked(table::check(n, table));
+    *answer = told(table::check(n, table));
 }
 
 // f(x); 0 past the table's end.
@@ -33,7 +35,7 @@ pub fn phg_value(table: &[u8], x: usize) -> u8
 pub fn phg_spectrum(n: u8, table: &[u8], out: &mut [i32], answer: &mut [u64; 6])
     ensures { Tells (Transforms n table.now out.old) transformed_says answer.new out.new }
 {
-    *answer = told::transformed(spectrum::spectrum(n, table, out));
+    *answer = told(spectrum::spectrum(n, table, out));
 }
 
 pub fn phg_decode(
@@ -54,60 +56,60 @@ pub fn phg_decode(
 pub fn phg_read(file: &[u8], answer: &mut [u64; 6])
     ensures { TellsAnswer (Reads file.now) reading_says answer.new }
 {
-    *answer = told::reading(circuit::read(file));
+    *answer = told(circuit::read(file));
 }
 
 pub fn phg_run(file: &[u8], start: u16, answer: &mut [u64; 6])
     ensures { TellsAnswer (Runs file.now start) ran_says answer.new }
 {
-    *answer = told::ran(running::run(file, start));
+    *answer = told(running::run(file, start));
 }
 
 pub fn phg_count(file: &[u8], answer: &mut [u64; 6])
     ensures { TellsAnswer (Counts file.now) counted_says answer.new }
 {
-    *answer = told::counted(running::count(file));
+    *answer = told(running::count(file));
 }
 
 pub fn phg_build(n: u8, table: &[u8], out: &mut [u8], answer: &mut [u64; 6])
     ensures { Tells (Builds n table.now out.old) built_says answer.new out.new }
 {
-    *answer = told::built(build::build(n, table, out));
+    *answer = told(build::build(n, table, out));
 }
 
 pub fn phg_fold(file: &[u8], out: &mut [u8], answer: &mut [u64; 6])
     ensures { Tells (Folds file.now out.old) folded_says answer.new out.new }
 {
-    *answer = told::folded(fold::fold(file, out));
+    *answer = told(fold::fold(file, out));
 }
 
 pub fn phg_cancel(file: &[u8], most: u16, out: &mut [u8], answer: &mut [u64; 6])
     ensures { Tells (Cancels file.now most out.old) cancelled_says answer.new out.new }
 {
-    *answer = told::cancelled(cancel::cancel(file, most, out));
+    *answer = told(cancel::cancel(file, most, out));
 }
 
 pub fn phg_compare(first: &[u8], second: &[u8], work: &mut [u16], answer: &mut [u64; 6])
     ensures { Tells (Compares first.now second.now work.old) compared_says answer.new work.new }
 {
-    *answer = told::compared(verdict::compare(first, second, work));
+    *answer = told(verdict::compare(first, second, work));
 }
 
 pub fn phg_judge(n: u8, table: &[u8], file: &[u8], work: &mut [u16], answer: &mut [u64; 6])
     ensures { Tells (Judges n table.now file.now work.old) compared_says answer.new work.new }
 {
-    *answer = told::compared(verdict::judge(n, table, file, work));
+    *answer = told(verdict::judge(n, table, file, work));
 }
 
 // Wrapped where `wrapped` is not 0.
 pub fn phg_list(file: &[u8], wrapped: u8, out: &mut [u8], answer: &mut [u64; 6])
     ensures { Tells (Lists (not (eqb wrapped 0)) file.now out.old) listed_says answer.new out.new }
 {
-    *answer = told::listed(listing::list(file, wrapped != 0, out));
+    *answer = told(listing::list(file, wrapped != 0, out));
 }
 
 pub fn phg_list_oracle(n: u8, table: &[u8], out: &mut [u8], answer: &mut [u64; 6])
     ensures { Tells (ListsOracle n table.now out.old) listed_says answer.new out.new }
 {
-    *answer = told::listed(oracle_listing::of_table(n, table, out));
+    *answer = told(oracle_listing::of_table(n, table, out));
 }

@@ -8,7 +8,9 @@ use mathlib.Core.Logic.{inl, inr}
 use mathlib.Core.List.{List}
 use lib.ListN.{length}
 use lib.Pow.{pow_pos, pow-add, shr_lt}
+use Rattle.std.specs.Prelude.{Result, Ok}
 use Rattle.numbers.specs.Bits.{bit}
+use Rattle.refusal.specs.declared.Refusal.{Refusal}
 use Rattle.refusal.specs.Checks.{passed, outcome}
 use Rattle.table.specs.Table.{table_checks, value_at}
 use Rattle.table.proofs.Callers.{good_variables}
@@ -23,9 +25,8 @@ use Rattle.build.proofs.Oracle.{construction_run}
 use Rattle.build.proofs.Circuits.{sound_construction}
 use Rattle.fold.specs.Fold.{folded_file}
 use Rattle.fold.proofs.Files.{same_wires, folded_passes, file_end, file_phase, file_twice}
+use Rattle.verdict.specs.declared.Verdict.{Verdict}
 use Rattle.verdict.specs.declared.Verdict.TheVariants.{Same, Different}
-use Rattle.verdict.specs.declared.Compared.{Compared}
-use Rattle.verdict.specs.declared.Compared.TheVariants.{Found}
 use Rattle.verdict.specs.Verdicts.{circuit, ideal, Agree}
 use Rattle.verdict.specs.Judging.{Compares, Judges}
 use Rattle.verdict.proofs.Callers.{compare_passes, judge_passes}
@@ -42,7 +43,7 @@ pub record Like (f g : List ℕ) : Type 0 where
   pub runs : (x : ℕ) → Agree (circuit (gates_of g)) (circuit (gates_of f)) x
 
 -- two of them are the same
-pub alike_are_same : (f g h : List ℕ) → Like f g → Like f h → (work : List ℕ) → 2 ^ wires_of f ≤ length work → (c : Compared) (after : List ℕ) → Compares g h work c after → c ≡ Found Same
+pub alike_are_same : (f g h : List ℕ) → Like f g → Like f h → (work : List ℕ) → 2 ^ wires_of f ≤ length work → (c : Result Verdict Refusal) (after : List ℕ) → Compares g h work c after → c ≡ Ok Same
 alike_are_same f g h p q work room c after m =
     compare_all_same g h work c after m
     (compare_passes g h work (p.passes 0) (q.passes 1) (p.wires ∙ sym q.wires) (subst (λ (w : ℕ). 2 ^ w ≤ length work) (sym p.wires) room))
@@ -69,19 +70,19 @@ module _ (f : List ℕ) (b : Bytes f) (good : outcome (file_checks 0 f) ≡ pass
   like_foldings (suc k) = rw (folded_once k) like_folded
 
   -- however often each side is folded
-  pub foldings_are_same : (j k : ℕ) (work : List ℕ) → 2 ^ wires_of f ≤ length work → (c : Compared) (after : List ℕ) → Compares (foldings j f) (foldings k f) work c after → c ≡ Found Same
+  pub foldings_are_same : (j k : ℕ) (work : List ℕ) → 2 ^ wires_of f ≤ length work → (c : Result Verdict Refusal) (after : List ℕ) → Compares (foldings j f) (foldings k f) work c after → c ≡ Ok Same
   foldings_are_same j k = alike_are_same f (foldings j f) (foldings k f) (like_foldings j) (like_foldings k)
 
   -- "A folded circuit is always the same as its original."
-  pub folded_is_same : (work : List ℕ) → 2 ^ wires_of f ≤ length work → (c : Compared) (after : List ℕ) → Compares f (folded_file f) work c after → c ≡ Found Same
+  pub folded_is_same : (work : List ℕ) → 2 ^ wires_of f ≤ length work → (c : Result Verdict Refusal) (after : List ℕ) → Compares f (folded_file f) work c after → c ≡ Ok Same
   folded_is_same = foldings_are_same 0 1
 
   -- the folded circuit first
-  pub original_is_same : (work : List ℕ) → 2 ^ wires_of f ≤ length work → (c : Compared) (after : List ℕ) → Compares (folded_file f) f work c after → c ≡ Found Same
+  pub original_is_same : (work : List ℕ) → 2 ^ wires_of f ≤ length work → (c : Result Verdict Refusal) (after : List ℕ) → Compares (folded_file f) f work c after → c ≡ Ok Same
   original_is_same = foldings_are_same 1 0
 
   -- two foldings of it
-  pub two_foldings_are_same : (work : List ℕ) → 2 ^ wires_of f ≤ length work → (c : Compared) (after : List ℕ) → Compares (folded_file f) (folded_file f) work c after → c ≡ Found Same
+  pub two_foldings_are_same : (work : List ℕ) → 2 ^ wires_of f ≤ length work → (c : Result Verdict Refusal) (after : List ℕ) → Compares (folded_file f) (folded_file f) work c after → c ≡ Ok Same
   two_foldings_are_same = foldings_are_same 1 1
 
 -- ---- the oracle of its table
@@ -118,7 +119,7 @@ module _ (n : ℕ) (t : List ℕ) (good : outcome (table_checks n t) ≡ passed)
       subst (λ gs. Agree (circuit gs) (ideal n (value_at t)) s) (sym (built_gates n t some few)) (construction_agrees n (value_at t) (omega (arith, few)) (λ x. omega arith) s h)
 
   -- "For every table of 1 to 8 variables the built circuit .. is judged to be that table's oracle"
-  pub built_is_oracle : (work : List ℕ) → 2 ^ (n + 1) ≤ length work → (c : Compared) (after : List ℕ) → Judges n t (built_file n t) work c after → c ≡ Found Same
+  pub built_is_oracle : (work : List ℕ) → 2 ^ (n + 1) ≤ length work → (c : Result Verdict Refusal) (after : List ℕ) → Judges n t (built_file n t) work c after → c ≡ Ok Same
   built_is_oracle work room c after m =
       let w = built_wires n t some few in
       judge_all_same n t (built_file n t) work c after m
@@ -132,7 +133,7 @@ module _ (n : ℕ) (t : List ℕ) (good : outcome (table_checks n t) ≡ passed)
   folded = folded_file (built_file n t)
 
   -- ".. plain or folded"
-  pub folded_is_oracle : (work : List ℕ) → 2 ^ (n + 1) ≤ length work → (c : Compared) (after : List ℕ) → Judges n t folded work c after → c ≡ Found Same
+  pub folded_is_oracle : (work : List ℕ) → 2 ^ (n + 1) ≤ length work → (c : Result Verdict Refusal) (after : List ℕ) → Judges n t folded work c after → c ≡ Ok Same
   folded_is_oracle work room c after m =
       let w = same_wires (built_file n t) ∙ built_wires n t some few in
       let p = built_passes n t some few 0 in
@@ -145,7 +146,7 @@ module _ (n : ℕ) (t : List ℕ) (good : outcome (table_checks n t) ≡ passed)
   module _ (u : List ℕ) (good' : outcome (table_checks n u) ≡ passed) (bt : Bytes t) (bu : Bytes u) (apart : t ≡ u → ⊥) where
     -- a file that does what the built one does is no other table's oracle
     only : (f : List ℕ) → wires_of f ≡ n + 1 → ((s : ℕ) → s < 2 ^ (n + 1) → phase_from (gates_of f) s ≡ phase_from (gates_of (built_file n t)) s)
-        → (work : List ℕ) (c : Compared) (after : List ℕ) → Judges n u f work c after → c ≡ Found Same → ⊥
+        → (work : List ℕ) (c : Result Verdict Refusal) (after : List ℕ) → Judges n u f work c after → c ≡ Ok Same → ⊥
     only f w same work c after m e =
         apart (tables_same n t u bt bu good good'
         (λ x h.
@@ -160,27 +161,27 @@ module _ (n : ℕ) (t : List ℕ) (good : outcome (table_checks n t) ≡ passed)
         omega arith))
 
     -- "and the oracle of no other table of as many variables"
-    pub built_is_no_other : (work : List ℕ) (c : Compared) (after : List ℕ) → Judges n u (built_file n t) work c after → c ≡ Found Same → ⊥
+    pub built_is_no_other : (work : List ℕ) (c : Result Verdict Refusal) (after : List ℕ) → Judges n u (built_file n t) work c after → c ≡ Ok Same → ⊥
     built_is_no_other = only (built_file n t) (built_wires n t some few) (λ s h. refl)
 
-    pub folded_is_no_other : (work : List ℕ) (c : Compared) (after : List ℕ) → Judges n u folded work c after → c ≡ Found Same → ⊥
+    pub folded_is_no_other : (work : List ℕ) (c : Result Verdict Refusal) (after : List ℕ) → Judges n u folded work c after → c ≡ Ok Same → ⊥
     folded_is_no_other = only folded (same_wires (built_file n t) ∙ built_wires n t some few) (λ s h. file_phase 0 (built_file n t) built_bytes (built_passes n t some few 0) s)
 
     -- so with room enough it is judged Different
-    abbrev IsDifferent : Compared → Type 0
-    IsDifferent c = (s : ℕ) × (e : ℕ) × (h : ℕ) × (q : ℕ) × (c ≡ Found (Different s e h q))
+    abbrev IsDifferent : Result Verdict Refusal → Type 0
+    IsDifferent c = (s : ℕ) × (e : ℕ) × (h : ℕ) × (q : ℕ) × (c ≡ Ok (Different s e h q))
 
-    different : (f : List ℕ) → outcome (file_checks 0 f) ≡ passed → wires_of f ≡ n + 1 → (work : List ℕ) → 2 ^ (n + 1) ≤ length work → (c : Compared) (after : List ℕ)
-        → Judges n u f work c after → (c ≡ Found Same → ⊥) → IsDifferent c
+    different : (f : List ℕ) → outcome (file_checks 0 f) ≡ passed → wires_of f ≡ n + 1 → (work : List ℕ) → 2 ^ (n + 1) ≤ length work → (c : Result Verdict Refusal) (after : List ℕ)
+        → Judges n u f work c after → (c ≡ Ok Same → ⊥) → IsDifferent c
     different f p w work room c after m no_other = by (judge_either n u f work c after m good' p w (subst (λ (k : ℕ). 2 ^ k ≤ length work) (sym w) room))
       where
         by : ThirdDemand (wires_of f) (circuit (gates_of f)) (ideal n (value_at u)) c → IsDifferent c
         by (inl e) = absurd (no_other e.same)
         by (inr d) = (d.state, d.first, d.second, d.phase, d.different)
 
-    pub built_is_different : (work : List ℕ) → 2 ^ (n + 1) ≤ length work → (c : Compared) (after : List ℕ) → Judges n u (built_file n t) work c after → IsDifferent c
+    pub built_is_different : (work : List ℕ) → 2 ^ (n + 1) ≤ length work → (c : Result Verdict Refusal) (after : List ℕ) → Judges n u (built_file n t) work c after → IsDifferent c
     built_is_different work room c after m = different (built_file n t) (built_passes n t some few 0) (built_wires n t some few) work room c after m (built_is_no_other work c after m)
 
-    pub folded_is_different : (work : List ℕ) → 2 ^ (n + 1) ≤ length work → (c : Compared) (after : List ℕ) → Judges n u folded work c after → IsDifferent c
+    pub folded_is_different : (work : List ℕ) → 2 ^ (n + 1) ≤ length work → (c : Result Verdict Refusal) (after : List ℕ) → Judges n u folded work c after → IsDifferent c
     folded_is_different work room c after m =
         different folded (folded_passes 0 (built_file n t) built_bytes (built_passes n t some few 0) 0) (same_wires (built_file n t) ∙ built_wires n t some few) work room c after m (folded_is_no_other work c after m)

@@ -1,16 +1,17 @@
 -- 02 §4: of several faults of a gate the first is its reason, and without one it is good; no two reasons have one number.
 use Prim.Native.Nat.{ℕ, ◌≤◌}
 use native.Mathlib.Omega.{arith}
-use mathlib.Core.Path.{◌≡◌, refl, sym, ap, subst, ◌∙◌}
+use mathlib.Core.Path.{◌≡◌, refl, sym, subst}
 use mathlib.Core.Logic.{◌⊎◌, inl, inr, ⊎_elim}
-use mathlib.Core.Bool.{Bool, true, false, not, ◌||◌, ◌&&◌, cond}
+use mathlib.Core.Bool.{Bool, true, false, not, ◌||◌, ◌&&◌}
 use lib.Dec.{leb, eqb}
 use borrow.Author.Tests.{leb-true, leb-false, eqb-true, eqb-false, not-true, not-false}
-use Rattle.circuit.specs.declared.Reason.{Reason}
-use Rattle.circuit.specs.declared.Reason.TheVariants.{Kind, Wire, Equal, Spare}
-use Rattle.circuit.specs.declared.Decoded.{Decoded}
-use Rattle.circuit.specs.declared.Decoded.TheVariants.{Good, Bad}
-use Rattle.circuit.specs.Gates.{bad_kind, bad_wire, equal_wires, bad_spare, decoded, reason_number}
+use Rattle.std.specs.Prelude.{Ok, Err}
+use Rattle.refusal.specs.declared.Reason.{Reason}
+use Rattle.refusal.specs.declared.Reason.TheVariants.{Kind, Wire, Equal, Spare}
+use Rattle.refusal.specs.Names.{reason_number}
+use Rattle.refusal.proofs.Numbering.{one_number as one_reason_number}
+use Rattle.circuit.specs.Gates.{Decoded, bad_kind, bad_wire, equal_wires, bad_spare, decoded}
 use Rattle.circuit.proofs.Decoding.{bad_kind_lem, bad_wire_lem, equal_wires_lem, bad_spare_lem, no_fault}
 use Rattle.promises.specs.Reasons.{BadKind, BadWire, EqualWires, BadSpare, FirstFault}
 
@@ -65,11 +66,11 @@ module _ (version w p kind a b c : ℕ) where
 
   -- what each answer means for the bytes
   abbrev Means : Decoded → Type 0
-  Means (Bad Kind) = BadKind version kind
-  Means (Bad Wire) = ¬ (BadKind version kind) × BadWire w kind a b
-  Means (Bad Equal) = ¬ (BadKind version kind) × ¬ (BadWire w kind a b) × EqualWires kind a b
-  Means (Bad Spare) = ¬ (BadKind version kind) × ¬ (BadWire w kind a b) × ¬ (EqualWires kind a b) × BadSpare kind b c
-  Means (Good g) = ¬ (BadKind version kind) × ¬ (BadWire w kind a b) × ¬ (EqualWires kind a b) × ¬ (BadSpare kind b c)
+  Means (Err Kind) = BadKind version kind
+  Means (Err Wire) = ¬ (BadKind version kind) × BadWire w kind a b
+  Means (Err Equal) = ¬ (BadKind version kind) × ¬ (BadWire w kind a b) × EqualWires kind a b
+  Means (Err Spare) = ¬ (BadKind version kind) × ¬ (BadWire w kind a b) × ¬ (EqualWires kind a b) × BadSpare kind b c
+  Means (Ok g) = ¬ (BadKind version kind) × ¬ (BadWire w kind a b) × ¬ (EqualWires kind a b) × ¬ (BadSpare kind b c)
 
   meant : Means (decoded version w p kind a b c)
   meant = by (bad_kind version kind) (bad_wire w kind a b) (equal_wires kind a b) (bad_spare kind b c) refl refl refl refl
@@ -101,15 +102,5 @@ module _ (version w p kind a b c : ℕ) where
   }
 
 -- no two reasons have one number
-reason_numbered : ℕ → Reason
-reason_numbered n = cond (eqb n 1) Kind (cond (eqb n 2) Wire (cond (eqb n 3) Equal Spare))
-
-number_back : (x : Reason) → reason_numbered (reason_number x) ≡ x
-unfolding reason_numbered
-number_back Kind = refl
-number_back Wire = refl
-number_back Equal = refl
-number_back Spare = refl
-
 pub one_number : (x y : Reason) → reason_number x ≡ reason_number y → x ≡ y
-one_number x y e = sym (number_back x) ∙ ap reason_numbered e ∙ number_back y
+one_number = one_reason_number

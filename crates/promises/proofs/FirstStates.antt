@@ -10,10 +10,12 @@ use borrow.Author.Tests.{lt-ltb, le-ltb, ne_eqb}
 use lib.Dec.{ltb, eqb}
 use lib.ListN.{replicate, length-replicate}
 use lib.Pow.{pow-add}
+use Rattle.std.specs.Prelude.{Result, Ok}
 use Rattle.numbers.specs.Bits.{bit}
 use Rattle.numbers.specs.Sums.{sum}
 use Rattle.numbers.specs.Turn.{difference}
 use Rattle.numbers.proofs.Search.{Lowest}
+use Rattle.refusal.specs.declared.Refusal.{Refusal}
 use Rattle.refusal.specs.Checks.{passed, outcome}
 use Rattle.table.specs.Table.{value_at}
 use Rattle.circuit.specs.Gates.{bytes_of, gates_from}
@@ -26,8 +28,6 @@ use Rattle.build.proofs.Circuits.{sound_construction, admitted_construction}
 use Rattle.build.proofs.Files.{construction_count}
 use Rattle.verdict.specs.declared.Verdict.{Verdict}
 use Rattle.verdict.specs.declared.Verdict.TheVariants.{Same, Different}
-use Rattle.verdict.specs.declared.Compared.{Compared}
-use Rattle.verdict.specs.declared.Compared.TheVariants.{Found}
 use Rattle.verdict.specs.Verdicts.{Side, circuit, ideal, verdict, Agree}
 use Rattle.verdict.specs.Judging.{Compares, Judges}
 use Rattle.verdict.proofs.Lowest.{lowest_part, verdict_found}
@@ -136,14 +136,14 @@ parts_last a =
     omega arith
 
 -- the two pass every check, and part at the last state alone
-pub last_state : (answer : Compared) (after : List ℕ) → Compares oracle (nothing 10) (replicate 1024 0) answer after → answer ≡ Found (Different 1023 1023 1023 32768)
+pub last_state : (answer : Result Verdict Refusal) (after : List ℕ) → Compares oracle (nothing 10) (replicate 1024 0) answer after → answer ≡ Ok (Different 1023 1023 1023 32768)
 unfolding still
 last_state answer after m =
     let a = circuit (gates_of oracle) in
     let b = circuit (gates_of (nothing 10)) in
     compare_gives oracle (nothing 10) (replicate 1024 0) answer after m
     (compare_passes oracle (nothing 10) (replicate 1024 0) (oracle_passes 0) (nothing_passes 10 1 (omega arith) (omega arith)) (oracle_wires ∙ sym (nothing_wires 10)) (omega (arith, ap (2 ^◌) oracle_wires, length-replicate {A = ℕ} 1024 0)))
-    ∙ ap (λ (w : ℕ). Found (verdict w a b)) oracle_wires ∙ ap Found (verdict_last 10 1023 a b refl agrees parts_last)
+    ∙ ap (λ (w : ℕ). Ok (verdict w a b)) oracle_wires ∙ ap Ok (verdict_last 10 1023 a b refl agrees parts_last)
     ∙ rw ((oracle_agrees 1023 (omega arith)).ends, (nothing_does 10 1023).ends, turned_last, (nothing_does 10 1023).phases)
 
 -- whoever tries at most 1,023 of the 1,024 states
@@ -187,14 +187,14 @@ judged_parts a =
     omega arith
 
 -- the call passes every check, and the two part at the last state alone
-pub last_state_judged : (answer : Compared) (after : List ℕ) → Judges 8 all_eight (nothing 9) (replicate 512 0) answer after → answer ≡ Found (Different 511 511 511 32768)
+pub last_state_judged : (answer : Result Verdict Refusal) (after : List ℕ) → Judges 8 all_eight (nothing 9) (replicate 512 0) answer after → answer ≡ Ok (Different 511 511 511 32768)
 unfolding all_eight still outcome
 last_state_judged answer after m =
     let a = circuit (gates_of (nothing 9)) in
     let b = ideal 8 (value_at all_eight) in
     judge_gives 8 all_eight (nothing 9) (replicate 512 0) answer after m
     (judge_passes 8 all_eight (nothing 9) (replicate 512 0) refl (nothing_passes 9 0 (omega arith) (omega arith)) (nothing_wires 9) (omega (arith, ap (2 ^◌) (nothing_wires 9), length-replicate {A = ℕ} 512 0)))
-    ∙ ap (λ (w : ℕ). Found (verdict w a b)) (nothing_wires 9) ∙ ap Found (verdict_last 9 511 a b refl judged_agrees judged_parts)
+    ∙ ap (λ (w : ℕ). Ok (verdict w a b)) (nothing_wires 9) ∙ ap Ok (verdict_last 9 511 a b refl judged_agrees judged_parts)
     ∙ rw ((nothing_does 9 511).ends, (nothing_does 9 511).phases)
 
 -- whoever tries at most 511 of the 512 states

@@ -7,8 +7,9 @@ use mathlib.Core.Bool.{Bool, true, false}
 use mathlib.Core.Logic.{◌↔◌, ◌⊎◌, inl, inr}
 use mathlib.Core.List.{List, [], ◌∷◌, ◌++◌}
 use lib.ListN.{length, get_or}
+use Rattle.std.specs.Prelude.{Result}
 use Rattle.refusal.specs.declared.Refusal.{Refusal}
-use Rattle.refusal.specs.Names.{refusal, VARS, TABLE, PAD, ROOM, LOOSE}
+use Rattle.refusal.specs.Names.{number_of, refusal, ROOM, LOOSE}
 use Rattle.refusal.specs.Checks.{Check, Outcome, passed, refused, outcome, room_check}
 use Rattle.refusal.specs.Contract.{said_of, Meets}
 use Rattle.refusal.proofs.Outcomes.{reaches, either, then_refused, then_passed}
@@ -26,7 +27,6 @@ use Rattle.build.specs.Construction.{built_file}
 use Rattle.build.proofs.Files.{built_passes, built_back}
 use Rattle.fold.specs.Fold.{folded_file}
 use Rattle.fold.proofs.Files.{same_wires, file_loose}
-use Rattle.listing.specs.declared.Listed.{Listed}
 use Rattle.listing.specs.Text.{decimal_from}
 use Rattle.listing.specs.Listing.{head_lines, listing_of, listing_of_file, loose_check, list_checks, listed_says, Lists, refused_line}
 use Rattle.listing.proofs.Decimals.{one_digit}
@@ -50,7 +50,7 @@ wraps_exactly f bytes good =
 
 -- ---- the order
 
-module _ (f out : List ℕ) (a : Listed) (after : List ℕ) where
+module _ (f out : List ℕ) (a : Result ℕ Refusal) (after : List ℕ) where
   abbrev loose : Bool → List Check
   loose wrapped = loose_check wrapped (wires_of f) (gates_of f)
 
@@ -115,34 +115,31 @@ module _ (n : ℕ) (t : List ℕ) (good : outcome (table_checks n t) ≡ passed)
       let b = (back_exactly (wires_of f) (gates_of f)).1 built_comes_back in
       (back_exactly (wires_of (folded_file f)) (gates_of (folded_file f))).0 (omega (arith, same_wires f, file_loose 0 f (built_bytes n t good) (built_passes n t v.0 v.1 0)))
 
-not_loose : (n : ℕ) → n < LOOSE → ¬ (n ≡ LOOSE)
-not_loose n h e = omega arith
-
 -- so neither of_table and oracle_listing nor printout refuses 17 ..
-pub oracle_never_loose : (n : ℕ) (t out : List ℕ) (a : Listed) (after : List ℕ) → ListsOracle n t out a after → (r : Refusal) → listed_says a ≡ said_of r → NotLoose r
+pub oracle_never_loose : (n : ℕ) (t out : List ℕ) (a : Result ℕ Refusal) (after : List ℕ) → ListsOracle n t out a after → (r : Refusal) → listed_says a ≡ said_of r → NotLoose r
 oracle_never_loose n t out a after m =
     answered_refusal listed_says (oracle_checks n t (length out)) out a after NotLoose
-    (given_by NotLoose (oracle_checks n t (length out)) (not_loose VARS (omega arith), (not_loose VARS (omega arith), (not_loose TABLE (omega arith), (not_loose PAD (omega arith), (not_loose ROOM (omega arith), tt))))))
+    (given_by NotLoose (oracle_checks n t (length out)) ((λ e. cc), ((λ e. cc), ((λ e. cc), ((λ e. cc), ((λ e. cc), tt))))))
     (oracle_first n t out a after m)
 
-pub printout_never_loose : (input out : List ℕ) (a : Listed) (after : List ℕ) → Prints input out a after → (r : Refusal) → listed_says a ≡ said_of r → NotLoose r
+pub printout_never_loose : (input out : List ℕ) (a : Result ℕ Refusal) (after : List ℕ) → Prints input out a after → (r : Refusal) → listed_says a ≡ said_of r → NotLoose r
 printout_never_loose input out a after m =
-    answered_refusal listed_says (room_check (length out) (length (printout input))) out a after NotLoose (given_by NotLoose (room_check (length out) (length (printout input))) (not_loose ROOM (omega arith), tt)) (printout_first input out a after m)
+    answered_refusal listed_says (room_check (length out) (length (printout input))) out a after NotLoose (given_by NotLoose (room_check (length out) (length (printout input))) ((λ e. cc), tt)) (printout_first input out a after m)
 
 -- .. and the listing program never prints it: a text begins with another byte, and the table's refusals have one digit
 first_byte : (n : ℕ) (t : List ℕ) → get_or (oracle_text n t) 0 0 ≡ 79
 unfolding listing_of head_lines
 first_byte n t = refl
 
-line_byte : get_or (refused_line LOOSE) 0 0 ≡ 114
+line_byte : get_or (refused_line (number_of LOOSE)) 0 0 ≡ 114
 unfolding refused_line
 line_byte = refl
 
-line_length : length (refused_line LOOSE) ≡ 11
+line_length : length (refused_line (number_of LOOSE)) ≡ 11
 unfolding refused_line decimal_from
 line_length = refl
 
-pub never_prints_loose : (input : List ℕ) → ¬ (printout input ≡ refused_line LOOSE)
+pub never_prints_loose : (input : List ℕ) → ¬ (printout input ≡ refused_line (number_of LOOSE))
 never_prints_loose input e = by (either (outcome (table_checks (variables_of input) (table_of input))))
   where
     by : (outcome (table_checks (variables_of input) (table_of input)) ≡ passed) ⊎ ((r : Refusal) × (outcome (table_checks (variables_of input) (table_of input)) ≡ refused r)) → ⊥
@@ -151,4 +148,4 @@ never_prints_loose input e = by (either (outcome (table_checks (variables_of inp
         omega (arith, first_byte (variables_of input) (table_of input), line_byte)
     by (inr (r, p)) =
         let q = ap length (sym (printed_line (variables_of input) (table_of input) r p) ∙ e) in
-        omega (arith, line_length, refused_long r.number, one_digit r.number (omega (arith, table_refusal (variables_of input) (table_of input) r p)))
+        omega (arith, line_length, refused_long (number_of r.cause), one_digit (number_of r.cause) (omega (arith, table_refusal (variables_of input) (table_of input) r p)))

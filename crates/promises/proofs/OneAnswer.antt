@@ -9,8 +9,7 @@ use Rattle.table.specs.Table.{Checks}
 use Rattle.table.proofs.Callers.{checked_distinct}
 use Rattle.spectrum.specs.Spectrum.{transformed_says, Transforms}
 use Rattle.spectrum.proofs.Callers.{transformed_distinct}
-use Rattle.circuit.specs.declared.Decoded.{Decoded}
-use Rattle.circuit.specs.Gates.{decoded}
+use Rattle.circuit.specs.Gates.{Decoded, decoded}
 use Rattle.circuit.specs.File.{ReadsSide, Reads}
 use Rattle.circuit.proofs.Callers.{reading_distinct}
 use Rattle.running.specs.Run.{Runs, Counts}

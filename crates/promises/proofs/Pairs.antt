@@ -4,6 +4,7 @@ use mathlib.Core.Path.{◌≡◌, refl, ap, ap₂, ◌∙◌}
 use mathlib.Core.Logic.{inl, inr}
 use mathlib.Core.List.{List, [], ◌∷◌, ◌++◌}
 use lib.ListN.{length, drop}
+use Rattle.std.specs.Prelude.{Result, Ok}
 use Rattle.refusal.specs.declared.Refusal.{Refusal}
 use Rattle.refusal.specs.Names.{refusal, ROOM, ALLOW}
 use Rattle.refusal.specs.Checks.{passed, refused, outcome, room_check}
@@ -17,11 +18,9 @@ use Rattle.circuit.proofs.Files.{file_written}
 use Rattle.fold.specs.Fold.{folded_file}
 use Rattle.fold.proofs.Files.{folded_passes, folded_bytes}
 use Rattle.verdict.specs.declared.Verdict.TheVariants.{Same}
-use Rattle.verdict.specs.declared.Compared.{Compared}
-use Rattle.verdict.specs.declared.Compared.TheVariants.{Found}
+use Rattle.verdict.specs.declared.Verdict.{Verdict}
 use Rattle.verdict.specs.Judging.{Compares}
 use Rattle.cancel.specs.declared.Cancelled.{Cancelled}
-use Rattle.cancel.specs.declared.Cancelled.TheVariants.{File}
 use Rattle.cancel.specs.Cancel.{steps, cancelled_file, most_allowed, allow_check, cancel_checks, cancelled_says, Cancels}
 use Rattle.cancel.specs.Sentences.{Pair}
 use Rattle.cancel.proofs.Sentences.{cancelling_only}
@@ -42,22 +41,22 @@ module _ (f : List ℕ) (b : Bytes f) (good : outcome (file_checks 0 f) ≡ pass
       record { passes = cancelled_passes 0 f b good most; wires = same_wires f most; runs = λ x. record { ends = file_end 0 f b good most x; phases = file_phase 0 f b good most x } }
 
   -- "The result is Same as its input", whichever is given first
-  pub cancelled_is_same : (most : ℕ) (work : List ℕ) → 2 ^ wires_of f ≤ length work → (c : Compared) (after : List ℕ) → Compares f (cancelled_file f most) work c after → c ≡ Found Same
+  pub cancelled_is_same : (most : ℕ) (work : List ℕ) → 2 ^ wires_of f ≤ length work → (c : Result Verdict Refusal) (after : List ℕ) → Compares f (cancelled_file f most) work c after → c ≡ Ok Same
   cancelled_is_same most = alike_are_same f f (cancelled_file f most) (like_itself f good) (like_cancelled most)
 
-  pub input_is_same : (most : ℕ) (work : List ℕ) → 2 ^ wires_of f ≤ length work → (c : Compared) (after : List ℕ) → Compares (cancelled_file f most) f work c after → c ≡ Found Same
+  pub input_is_same : (most : ℕ) (work : List ℕ) → 2 ^ wires_of f ≤ length work → (c : Result Verdict Refusal) (after : List ℕ) → Compares (cancelled_file f most) f work c after → c ≡ Ok Same
   input_is_same most = alike_are_same f (cancelled_file f most) f (like_cancelled most) (like_itself f good)
 
 -- "Folding leaves CNOTs beside their twin.": folded, then cancelled, it still is
-pub folded_cancelled_is_same : (f : List ℕ) → Bytes f → outcome (file_checks 0 f) ≡ passed → (most : ℕ) (work : List ℕ) → 2 ^ wires_of f ≤ length work → (c : Compared) (after : List ℕ)
-    → Compares f (cancelled_file (folded_file f) most) work c after → c ≡ Found Same
+pub folded_cancelled_is_same : (f : List ℕ) → Bytes f → outcome (file_checks 0 f) ≡ passed → (most : ℕ) (work : List ℕ) → 2 ^ wires_of f ≤ length work → (c : Result Verdict Refusal) (after : List ℕ)
+    → Compares f (cancelled_file (folded_file f) most) work c after → c ≡ Ok Same
 folded_cancelled_is_same f b good most =
     let g = folded_file f in
     alike_are_same f f (cancelled_file g most) (like_itself f good) (like_then f g (cancelled_file g most) (like_folded f b good) (like_cancelled g (folded_bytes 0 f b good) (folded_passes 0 f b good 0) most))
 
 -- ---- what is answered
 
-module _ (f : List ℕ) (most : ℕ) (out : List ℕ) (a : Cancelled) (after : List ℕ) (b : Bytes f) (p : outcome (cancel_checks f most (length out)) ≡ passed) where
+module _ (f : List ℕ) (most : ℕ) (out : List ℕ) (a : Result Cancelled Refusal) (after : List ℕ) (b : Bytes f) (p : outcome (cancel_checks f most (length out)) ≡ passed) where
   good : outcome (file_checks 0 f) ≡ passed
   good = (parts_pass (file_checks 0 f) (allow_check most ++ room_check (length out) (length (cancelled_file f most))) p).0
 
@@ -68,7 +67,7 @@ module _ (f : List ℕ) (most : ℕ) (out : List ℕ) (a : Cancelled) (after : L
       record {
         file = cancelled_file f most;
         pairs = steps most (gates_of f);
-        answers = cancelled_distinct a (File (length (cancelled_file f most)) (steps most (gates_of f))) r.0;
+        answers = cancelled_distinct a (Ok (record { length = length (cancelled_file f most); pairs = steps most (gates_of f) })) r.0;
         holds = r.1;
         bytes = cancelled_bytes 0 f b good most;
         good = cancelled_passes 0 f b good most;
@@ -90,7 +89,7 @@ module _ (f : List ℕ) (most : ℕ) (out : List ℕ) (a : Cancelled) (after : L
 
 -- ---- the order
 
-module _ (f : List ℕ) (most : ℕ) (out : List ℕ) (a : Cancelled) (after : List ℕ) (m : Cancels f most out a after) where
+module _ (f : List ℕ) (most : ℕ) (out : List ℕ) (a : Result Cancelled Refusal) (after : List ℕ) (m : Cancels f most out a after) where
   -- where the checks come to a refusal it is answered, and nothing is written
   answers : (r : Refusal) → outcome (cancel_checks f most (length out)) ≡ refused r → (cancelled_says a ≡ said_of r) × (after ≡ out)
   answers r e = when_refused cancelled_says (outcome (cancel_checks f most (length out))) (cancel_values f most) (cancelled_file f most) out a after r e m

@@ -9,10 +9,12 @@ use lib.Count.{ones}
 use lib.ListN.{length, set, take, get_or-eq_default}
 use lib.Seq.{get_or-set_same, get_or-set_other, set_out}
 use lib.Bits.{bit_xor, xor_self}
+use Rattle.std.specs.Prelude.{Result, Ok}
 use Rattle.numbers.specs.Bits.{bit, equal, subset}
 use Rattle.numbers.proofs.Lists.{length-list, get_or-list}
 use Rattle.numbers.proofs.Parity.{equal_yes}
 use Rattle.numbers.proofs.Wires.{bit_own}
+use Rattle.refusal.specs.declared.Refusal.{Refusal}
 use Rattle.refusal.specs.Checks.{passed, outcome}
 use Rattle.circuit.specs.declared.Gate.{Gate}
 use Rattle.circuit.specs.declared.Gate.TheVariants.{Cnot, Phase, Inverter}
@@ -27,8 +29,7 @@ use Rattle.running.specs.Groups.{same_held, group_total, held_before, earlier}
 use Rattle.fold.specs.Fold.{kept, first_only, becomes, folded_from, folded}
 use Rattle.coefficients.specs.Coefficients.{sign, coefficient}
 use Rattle.verdict.specs.declared.Verdict.TheVariants.{Different}
-use Rattle.verdict.specs.declared.Compared.{Compared}
-use Rattle.verdict.specs.declared.Compared.TheVariants.{Found}
+use Rattle.verdict.specs.declared.Verdict.{Verdict}
 use Rattle.verdict.specs.Judging.{Compares}
 use Rattle.promises.specs.MasksAlone.{total_of_mask, earlier_of_mask, becomes_by_mask, folded_by_mask_from, folded_by_mask, coefficient_by_mask}
 use Rattle.promises.proofs.Verdicts.{compare_named}
@@ -163,8 +164,8 @@ module _ (f : List ℕ) (bytes : Bytes f) (side : ℕ) (good : outcome (file_che
   zero_stays = start_stays (gates_of f) plain
 
 -- of two version 1 files the lowest differing state is never 0
-pub never_at_zero : (f g work : List ℕ) (answer : Compared) (after : List ℕ) → Compares f g work answer after → Bytes f → Bytes g → outcome (file_checks 0 f) ≡ passed → outcome (file_checks 1 g) ≡ passed
-    → version_of f ≡ 1 → version_of g ≡ 1 → (s e h p : ℕ) → answer ≡ Found (Different s e h p) → 1 ≤ s
+pub never_at_zero : (f g work : List ℕ) (answer : Result Verdict Refusal) (after : List ℕ) → Compares f g work answer after → Bytes f → Bytes g → outcome (file_checks 0 f) ≡ passed → outcome (file_checks 1 g) ≡ passed
+    → version_of f ≡ 1 → version_of g ≡ 1 → (s e h p : ℕ) → answer ≡ Ok (Different s e h p) → 1 ≤ s
 never_at_zero f g work answer after m b d p q v w zero e h t r =
     let x = zero_stays f b 0 p v in
     let y = zero_stays g d 1 q w in

@@ -9,33 +9,33 @@ use mathlib.Core.List.{List, [], ◌∷◌, ◌++◌}
 use lib.ListN.{length, get_or, replicate, length-replicate}
 use lib.Count.{ones}
 use lib.IntN.{pos}
+use Rattle.std.specs.Prelude.{Result, Ok, Err, Some}
 use Rattle.numbers.specs.Bits.{subset}
+use Rattle.refusal.specs.declared.Refusal.{Refusal}
 use Rattle.refusal.specs.Names.{refusal, bad_gate, LOOSE}
 use Rattle.refusal.specs.Checks.{Check, passed, outcome}
-use Rattle.refusal.specs.Contract.{Said, Says}
+use Rattle.refusal.specs.Contract.{Said, values, Says}
 use Rattle.refusal.proofs.Rooms.{room_suffices}
 use Rattle.refusal.proofs.Contracts.{says_refused}
 use Rattle.table.specs.Table.{table_checks, checked_says}
 use Rattle.spectrum.specs.Spectrum.{spectrum_checks, transformed_says}
 use Rattle.circuit.specs.declared.Gate.TheVariants.{Cnot, Phase, Inverter}
-use Rattle.circuit.specs.declared.Reading.TheVariants.{Refused as ReadRefused}
+use Rattle.refusal.specs.declared.Reason.TheVariants.{Kind, Equal}
 use Rattle.circuit.specs.Gates.{decoded, first_bad, gates_from, bytes_of}
 use Rattle.circuit.specs.Working.{AllSound, AllAdmitted}
 use Rattle.circuit.specs.File.{header_bytes, gates_of, file_of, file_checks, reading_says, Reads}
 use Rattle.circuit.proofs.Files.{list_written}
 use Rattle.running.specs.declared.Counted.{Counted}
-use Rattle.running.specs.declared.Counted.TheVariants.{Gates}
 use Rattle.running.specs.Run.{end_from, total_from, cnots, phases, free_turn, scores, score_by, inverters, run_checks, ran_says, counted_says, Counts}
 use Rattle.running.proofs.Counts.{multiple_is_free, free_is_multiple}
 use Rattle.running.proofs.Callers.{count_answers}
 use Rattle.running.specs.Masks.{held_from, sum_met}
 use Rattle.build.specs.Construction.{build_checks, built_says}
-use Rattle.fold.specs.declared.Folded.TheVariants.{File}
+use Rattle.fold.specs.declared.Folded.{Folded}
 use Rattle.fold.specs.Fold.{folded_from, fold_checks, folded_says, Folds}
 use Rattle.cancel.specs.Cancel.{cancelled, cancel_checks, cancelled_says}
 use Rattle.verdict.specs.declared.Verdict.{Verdict}
 use Rattle.verdict.specs.declared.Verdict.TheVariants.{Same, Different}
-use Rattle.verdict.specs.declared.Compared.TheVariants.{Found}
 use Rattle.coefficients.specs.Coefficients.{coefficient, ideal_coefficient}
 use Rattle.verdict.specs.Verdicts.{verdict, differences}
 use Rattle.numbers.specs.Search.{least}
@@ -56,6 +56,13 @@ use Rattle.promises.proofs.Cases.{build_here, cnot_differs, turned_differs, cnot
 pub no_program : {Input Answer Entry : Type 0} (Contract Wrong : Input → Answer → List Entry → Type 0) → Unacceptable Contract Wrong
     → (program : Input → Answer × List Entry) → ((i : Input) → Wrong i (program i).0 (program i).1) → ((i : Input) → Contract i (program i).0 (program i).1) → ⊥
 no_program Contract Wrong u program wrong meets = u.fails (program u.input).0 (program u.input).1 (wrong u.input) (meets u.input)
+
+-- a count that is answered, and a folding
+abbrev counts_to : ℕ → ℕ → ℕ → ℕ → Result Counted Refusal
+counts_to c p s x = Ok (record { cnots = c; phases = p; score = s; inverters = x })
+
+abbrev folds_to : ℕ → ℕ → ℕ → Result Folded Refusal
+folds_to l b a = Ok (record { length = l; before = b; after = a })
 
 -- ---- refuses everything
 
@@ -120,7 +127,7 @@ oracle_refusing = record {
 
 -- ---- a constant verdict
 
-same_file : Compares empty empty (replicate 4 0) (Found Same) (replicate 4 0)
+same_file : Compares empty empty (replicate 4 0) (Ok Same) (replicate 4 0)
 unfolding outcome file_of bytes_of first_bad gates_from verdict least end_from total_from differences coefficient sum_met ones
 same_file = record { says = refl; leaves = refl }
 
@@ -141,11 +148,11 @@ constant_verdict (Different s e f p) = record {
 }
 
 -- the same of judge, by the table 02 of one variable: its own circuit is Same, the empty one Different
-judge_built : Judges 1 (2 ∷ []) built_here (replicate 4 0) (Found Same) (replicate 4 0)
+judge_built : Judges 1 (2 ∷ []) built_here (replicate 4 0) (Ok Same) (replicate 4 0)
 unfolding outcome decoded first_bad gates_from verdict least end_from total_from differences coefficient ideal_coefficient sum_met subset ones
 judge_built = record { says = refl; leaves = refl }
 
-judge_empty : Judges 1 (2 ∷ []) empty (replicate 4 0) (Found (Different 3 3 3 32768)) (0 ∷ 0 ∷ 0 ∷ 32768 ∷ [])
+judge_empty : Judges 1 (2 ∷ []) empty (replicate 4 0) (Ok (Different 3 3 3 32768)) (0 ∷ 0 ∷ 0 ∷ 32768 ∷ [])
 unfolding outcome file_of bytes_of first_bad gates_from verdict least end_from total_from differences coefficient ideal_coefficient sum_met subset ones
 judge_empty = record { says = refl; leaves = refl }
 
@@ -173,7 +180,7 @@ leaves_buffer = record {
 opposite : List ℕ
 opposite = file_of 1 1 (Phase 0 1 ∷ Phase 0 65535 ∷ [])
 
-opposite_folds : Folds opposite (replicate 16 0) (File 8 2 0) (file_of 1 1 [] ++ replicate 8 0)
+opposite_folds : Folds opposite (replicate 16 0) (folds_to 8 2 0) (file_of 1 1 [] ++ replicate 8 0)
 unfolding opposite outcome file_of bytes_of decoded first_bad gates_from folded_from held_from sum_met score_by
 opposite_folds = record { says = refl; leaves = refl }
 
@@ -188,7 +195,7 @@ copies = record {
 two_groups : List ℕ
 two_groups = file_of 1 2 (Phase 0 1 ∷ Phase 0 2 ∷ Phase 1 3 ∷ Phase 1 4 ∷ [])
 
-two_groups_fold : Folds two_groups (replicate 24 0) (File 16 4 2) (file_of 1 2 (Phase 0 3 ∷ Phase 1 7 ∷ []) ++ replicate 8 0)
+two_groups_fold : Folds two_groups (replicate 24 0) (folds_to 16 4 2) (file_of 1 2 (Phase 0 3 ∷ Phase 1 7 ∷ []) ++ replicate 8 0)
 unfolding two_groups outcome file_of bytes_of decoded first_bad gates_from folded_from held_from sum_met score_by
 two_groups_fold = record { says = refl; leaves = refl }
 
@@ -204,20 +211,20 @@ first_group_only = record {
 one_phase : List ℕ
 one_phase = file_of 1 2 (Phase 0 1 ∷ [])
 
-none_counted : Counts empty (Gates 0 0 0 0)
+none_counted : Counts empty (counts_to 0 0 0 0)
 unfolding outcome file_of bytes_of first_bad gates_from cnots phases score_by inverters
 none_counted = refl
 
-one_counted : Counts one_phase (Gates 0 1 1 0)
+one_counted : Counts one_phase (counts_to 0 1 1 0)
 unfolding one_phase outcome file_of bytes_of decoded first_bad gates_from cnots phases score_by inverters
 one_counted = refl
 
 -- folding's scores are both 1 for the one phase gate, 0 for no gate
-one_folded : Folds one_phase (replicate 12 0) (File 12 1 1) one_phase
+one_folded : Folds one_phase (replicate 12 0) (folds_to 12 1 1) one_phase
 unfolding one_phase outcome file_of bytes_of decoded first_bad gates_from folded_from held_from sum_met score_by
 one_folded = record { says = refl; leaves = refl }
 
-none_folded : Folds empty (replicate 8 0) (File 8 0 0) empty
+none_folded : Folds empty (replicate 8 0) (folds_to 8 0 0) empty
 unfolding outcome file_of bytes_of first_bad gates_from folded_from score_by
 none_folded = record { says = refl; leaves = refl }
 
@@ -231,20 +238,20 @@ invented Contract Scores one none is_one is_none (suc s) = record { input = none
 pub invented_score : (s : ℕ) → Unacceptable CountsAt (AlwaysScores s)
 invented_score =
     invented CountsAt AlwaysScores one_phase empty
-    (λ s a x m e. let q : Gates e.0 e.1 s e.2 ≡ Gates 0 1 1 0 = sym e.3 ∙ one_count one_phase a _ m one_counted in cc)
-    (λ s a x m e. let q : Gates e.0 e.1 s e.2 ≡ Gates 0 0 0 0 = sym e.3 ∙ one_count empty a _ m none_counted in cc)
+    (λ s a x m e. let q : values (e.0 ∷ e.1 ∷ s ∷ e.2 ∷ []) ≡ values (0 ∷ 1 ∷ 1 ∷ 0 ∷ []) = ap counted_says (sym e.3 ∙ one_count one_phase a (counts_to 0 1 1 0) m one_counted) in cc)
+    (λ s a x m e. let q : values (e.0 ∷ e.1 ∷ s ∷ e.2 ∷ []) ≡ values (0 ∷ 0 ∷ 0 ∷ 0 ∷ []) = ap counted_says (sym e.3 ∙ one_count empty a (counts_to 0 0 0 0) m none_counted) in cc)
 
 pub invented_score_before : (s : ℕ) → Unacceptable FoldsAt (AlwaysScoresBefore s)
 invented_score_before =
     invented FoldsAt AlwaysScoresBefore (one_phase, replicate 12 0) (empty, replicate 8 0)
-    (λ s a x m e. let q : File e.0 s e.1 ≡ File 12 1 1 = sym e.2 ∙ (one_fold one_phase (replicate 12 0) a _ x _ m one_folded).0 in cc)
-    (λ s a x m e. let q : File e.0 s e.1 ≡ File 8 0 0 = sym e.2 ∙ (one_fold empty (replicate 8 0) a _ x _ m none_folded).0 in cc)
+    (λ s a x m e. let q : values (e.0 ∷ s ∷ e.1 ∷ []) ≡ values (12 ∷ 1 ∷ 1 ∷ []) = ap folded_says (sym e.2 ∙ (one_fold one_phase (replicate 12 0) a (folds_to 12 1 1) x _ m one_folded).0) in cc)
+    (λ s a x m e. let q : values (e.0 ∷ s ∷ e.1 ∷ []) ≡ values (8 ∷ 0 ∷ 0 ∷ []) = ap folded_says (sym e.2 ∙ (one_fold empty (replicate 8 0) a (folds_to 8 0 0) x _ m none_folded).0) in cc)
 
 pub invented_score_after : (s : ℕ) → Unacceptable FoldsAt (AlwaysScoresAfter s)
 invented_score_after =
     invented FoldsAt AlwaysScoresAfter (one_phase, replicate 12 0) (empty, replicate 8 0)
-    (λ s a x m e. let q : File e.0 e.1 s ≡ File 12 1 1 = sym e.2 ∙ (one_fold one_phase (replicate 12 0) a _ x _ m one_folded).0 in cc)
-    (λ s a x m e. let q : File e.0 e.1 s ≡ File 8 0 0 = sym e.2 ∙ (one_fold empty (replicate 8 0) a _ x _ m none_folded).0 in cc)
+    (λ s a x m e. let q : values (e.0 ∷ e.1 ∷ s ∷ []) ≡ values (12 ∷ 1 ∷ 1 ∷ []) = ap folded_says (sym e.2 ∙ (one_fold one_phase (replicate 12 0) a (folds_to 12 1 1) x _ m one_folded).0) in cc)
+    (λ s a x m e. let q : values (e.0 ∷ e.1 ∷ s ∷ []) ≡ values (8 ∷ 0 ∷ 0 ∷ []) = ap folded_says (sym e.2 ∙ (one_fold empty (replicate 8 0) a (folds_to 8 0 0) x _ m none_folded).0) in cc)
 
 -- ---- another free turn
 
@@ -253,11 +260,11 @@ alone : ℕ → List ℕ
 alone a = file_of 1 1 (Phase 0 a ∷ [])
 
 -- a score by d meets the contract only where both numbers have the angle free, or neither
-scored_alike : (d a : ℕ) → a < 65536 → (r : Counted) (x : List ℕ) → ScoresBy d (alone a) r x → Counts (alone a) r → scores d a ≡ scores free_turn a
+scored_alike : (d a : ℕ) → a < 65536 → (r : Result Counted Refusal) (x : List ℕ) → ScoresBy d (alone a) r x → Counts (alone a) r → scores d a ≡ scores free_turn a
 unfolding alone AllSound AllAdmitted score_by
 scored_alike d a l r x e m =
     let g : gates_of (file_of 1 1 (Phase 0 a ∷ [])) ≡ Phase 0 a ∷ [] = list_written 1 1 (Phase 0 a ∷ []) ((omega arith, l), tt) (tt, tt) in
-    let k = rw g at (count_answers (alone a) r m e.0 e.1 (score_by d (gates_of (alone a))) e.2 e.3).has_score in
+    let k = rw g at (count_answers (alone a) r m (record { cnots = e.0; phases = e.1; score = score_by d (gates_of (alone a)); inverters = e.2 }) e.3).has_score in
     omega arith
 
 pub another_free_turn : (d : ℕ) → ¬ (d ≡ free_turn) → Unacceptable CountsAt (ScoresBy d)
@@ -279,7 +286,7 @@ another_free_turn d other = by (dec_dvd d free_turn)
 two_bad : List ℕ
 two_bad = header_bytes 1 2 2 ++ (0 ∷ 0 ∷ 0 ∷ 0 ∷ 1 ∷ 0 ∷ 0 ∷ 0 ∷ [])
 
-two_bad_read : Reads two_bad (ReadRefused (bad_gate 0 0 1))
+two_bad_read : Reads two_bad (Err (bad_gate 0 0 (Some Kind)))
 unfolding two_bad outcome decoded first_bad
 two_bad_read = refl
 
@@ -287,7 +294,7 @@ two_bad_read = refl
 one_bad : List ℕ
 one_bad = header_bytes 1 2 1 ++ (1 ∷ 0 ∷ 0 ∷ 0 ∷ [])
 
-one_bad_read : Reads one_bad (ReadRefused (bad_gate 0 0 3))
+one_bad_read : Reads one_bad (Err (bad_gate 0 0 (Some Equal)))
 unfolding one_bad outcome decoded first_bad
 one_bad_read = refl
 
@@ -297,18 +304,18 @@ invented_reason x = by (ℕ_discrete x 1)
     by : Dec (x ≡ 1) → Unacceptable ReadsAt (AlwaysReasons x)
     by (yes e) = record {
       input = one_bad;
-      fails = λ a l wrong m. let z : 3 ≡ x = wrong (bad_gate 0 0 3) (one_reading one_bad a _ m one_bad_read) refl in omega arith;
+      fails = λ a l wrong m. let z : 3 ≡ x = wrong (bad_gate 0 0 (Some Equal)) (one_reading one_bad a _ m one_bad_read) refl in omega arith;
     }
     by (no n) = record {
       input = two_bad;
-      fails = λ a l wrong m. n (sym (wrong (bad_gate 0 0 1) (one_reading two_bad a _ m two_bad_read) refl));
+      fails = λ a l wrong m. n (sym (wrong (bad_gate 0 0 (Some Kind)) (one_reading two_bad a _ m two_bad_read) refl));
     }
 
 pub last_reason_lem : Unacceptable ReadsAt ReasonsByLast
 unfolding two_bad decoded last_reason
 last_reason_lem = record {
   input = two_bad;
-  fails = λ a l wrong m. let z : ◌≡◌ {A = ℕ} 1 3 = wrong (bad_gate 0 0 1) (one_reading two_bad a _ m two_bad_read) refl in omega arith;
+  fails = λ a l wrong m. let z : ◌≡◌ {A = ℕ} 1 3 = wrong (bad_gate 0 0 (Some Kind)) (one_reading two_bad a _ m two_bad_read) refl in omega arith;
 }
 
 -- ---- never names start 0, and folds by masks alone
@@ -320,7 +327,7 @@ never_names_zero = record {
 }
 
 -- the groups of 14 and 7 would be one of 21
-two_flips_fold : Folds two_flips (replicate 28 0) (File 24 3 2) (on_one (Phase 0 14 ∷ Inverter 0 ∷ Phase 0 7 ∷ Inverter 0 ∷ []) ++ replicate 4 0)
+two_flips_fold : Folds two_flips (replicate 28 0) (folds_to 24 3 2) (on_one (Phase 0 14 ∷ Inverter 0 ∷ Phase 0 7 ∷ Inverter 0 ∷ []) ++ replicate 4 0)
 unfolding outcome file_of bytes_of decoded first_bad gates_from folded_from held_from sum_met score_by
 two_flips_fold = record { says = refl; leaves = refl }
 

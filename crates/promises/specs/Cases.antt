@@ -1,24 +1,18 @@
 -- 01, "Cases on each side": the cases marked (p), the built file of two variables, two on what folding keeps, what "Listing" says of the program's inputs, and seven of version 2 (02 §12).
 -- Each lends a slice that is just as long as the result.
 -- The scores are by 02 §2: "01's built files fall from 3 to 0 and from 8 to 7." The cases of version 2 are 02 §12's.
-use Rattle.std.specs.Prelude.{ℕ, true, List, [], ◌∷◌, length, replicate, ℤ, pos, negsuc}
+use Rattle.std.specs.Prelude.{ℕ, true, List, [], ◌∷◌, length, replicate, ℤ, pos, negsuc, Ok, Err}
 use Rattle.refusal.specs.Names.{refusal, LOOSE}
-use Rattle.spectrum.specs.declared.Transformed.TheVariants.{Entries}
 use Rattle.spectrum.specs.Spectrum.{Transforms}
 use Rattle.circuit.specs.declared.Gate.{Gate}
 use Rattle.circuit.specs.declared.Gate.TheVariants.{Cnot, Phase, Inverter}
 use Rattle.circuit.specs.File.{file_of}
-use Rattle.running.specs.declared.Counted.TheVariants.{Gates}
 use Rattle.running.specs.Run.{Counts}
-use Rattle.build.specs.declared.Built.TheVariants.{Length as BuiltLength}
 use Rattle.build.specs.Construction.{Builds}
-use Rattle.fold.specs.declared.Folded.TheVariants.{File}
 use Rattle.fold.specs.Fold.{Folds}
 use Rattle.verdict.specs.declared.Verdict.{Verdict}
 use Rattle.verdict.specs.declared.Verdict.TheVariants.{Same, Different}
-use Rattle.verdict.specs.declared.Compared.TheVariants.{Found}
 use Rattle.verdict.specs.Judging.{Compares}
-use Rattle.listing.specs.declared.Listed.TheVariants.{Length, Refused}
 use Rattle.listing.specs.Text.{ascii}
 use Rattle.listing.specs.Listing.{Lists}
 use Rattle.oracle_listing.specs.Oracle.{Prints}
@@ -46,14 +40,14 @@ zeros l = replicate (length l) 0
 
 -- a case holds where its answer and its slice meet the operation's contract; by `NoSecond` nothing else then does
 abbrev pub Holds : Case → Type 0
-Holds (spectrum n t s) = Transforms n t (replicate (length s) (pos 0)) (Entries (length s)) s
-Holds (built n t f) = Builds n t (zeros f) (BuiltLength (length f)) f
-Holds (counted f c p s x) = Counts f (Gates c p s x)
-Holds (folds f g b a) = Folds f (zeros g) (File (length g) b a) g
-Holds (compared f g v d) = Compares f g (zeros d) (Found v) d
-Holds (prints input text) = Prints input (zeros text) (Length (length text)) text
-Holds (wraps f text) = Lists true f (zeros text) (Length (length text)) text
-Holds (is_loose f) = Lists true f [] (Refused (refusal LOOSE)) []
+Holds (spectrum n t s) = Transforms n t (replicate (length s) (pos 0)) (Ok (length s)) s
+Holds (built n t f) = Builds n t (zeros f) (Ok (length f)) f
+Holds (counted f c p s x) = Counts f (Ok (record { cnots = c; phases = p; score = s; inverters = x }))
+Holds (folds f g b a) = Folds f (zeros g) (Ok (record { length = length g; before = b; after = a })) g
+Holds (compared f g v d) = Compares f g (zeros d) (Ok v) d
+Holds (prints input text) = Prints input (zeros text) (Ok (length text)) text
+Holds (wraps f text) = Lists true f (zeros text) (Ok (length text)) text
+Holds (is_loose f) = Lists true f [] (Err (refusal LOOSE)) []
 
 abbrev pub AllHold : List Case → Type 0
 AllHold [] = Unit {0}

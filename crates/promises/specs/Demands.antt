@@ -1,12 +1,11 @@
 -- The tender's first demand, and 01's "How far every promise reaches", as statements about any contract; its third, of an answer about two sides.
-use Rattle.std.specs.Prelude.{ℕ, zero, suc, ◌^◌, ◌<◌, ◌≡◌, ◌⊎◌, List}
+use Rattle.std.specs.Prelude.{ℕ, zero, suc, ◌^◌, ◌<◌, ◌≡◌, ◌⊎◌, List, Result, Ok}
 use Rattle.refusal.specs.declared.Refusal.{Refusal}
 use Rattle.refusal.specs.Checks.{Check, refused, outcome, AllFail}
 use Rattle.refusal.specs.Contract.{Said, values, said_of}
 use Rattle.fold.specs.Fold.{folded_file}
 use Rattle.verdict.specs.declared.Verdict.TheVariants.{Same, Different}
-use Rattle.verdict.specs.declared.Compared.{Compared}
-use Rattle.verdict.specs.declared.Compared.TheVariants.{Found}
+use Rattle.verdict.specs.declared.Verdict.{Verdict}
 use Rattle.verdict.specs.Verdicts.{Side, Agree, Named}
 
 abbrev pub Answers : {Answer : Type 0} → (Answer → Said) → Answer → Type 0
@@ -38,21 +37,21 @@ abbrev pub NoSecondAnswer : {Answer : Type 0} → (Answer → Type 0) → Type 0
 NoSecondAnswer {Answer} Contract = (a b : Answer) → Contract a → Contract b → a ≡ b
 
 -- "the verdict is "same" .. every starting state ends in the same state under both, with the same phase"
-pub record AllAgree (w : ℕ) (a b : Side) (answer : Compared) : Type 0 where
-  pub same : answer ≡ Found Same
+pub record AllAgree (w : ℕ) (a b : Side) (answer : Result Verdict Refusal) : Type 0 where
+  pub same : answer ≡ Ok Same
   pub agree : (x : ℕ) → x < 2 ^ w → Agree a b x
 
 -- "Otherwise it names the lowest starting state where they part, and how."
-pub record Parted (w : ℕ) (a b : Side) (answer : Compared) : Type 0 where
+pub record Parted (w : ℕ) (a b : Side) (answer : Result Verdict Refusal) : Type 0 where
   pub state : ℕ
   pub first : ℕ
   pub second : ℕ
   pub phase : ℕ
-  pub different : answer ≡ Found (Different state first second phase)
+  pub different : answer ≡ Ok (Different state first second phase)
   pub named : Named a b w state first second phase
 
 -- the third demand, of an answer about two sides on w wires
-abbrev pub ThirdDemand : ℕ → Side → Side → Compared → Type 0
+abbrev pub ThirdDemand : ℕ → Side → Side → Result Verdict Refusal → Type 0
 ThirdDemand w a b answer = AllAgree w a b answer ⊎ Parted w a b answer
 
 -- a file folded so many times

@@ -1,10 +1,10 @@
 -- Rules that 02 §9 does not name: what a program that follows one of them leaves.
-use Rattle.std.specs.Prelude.{ℕ, zero, suc, ◌*◌, ◌≡◌, Bool, false, cond, List, [], ◌∷◌, ◌++◌, length, drop}
+use Rattle.std.specs.Prelude.{ℕ, zero, suc, ◌*◌, ◌≡◌, Bool, false, cond, List, [], ◌∷◌, ◌++◌, length, drop, Result, Ok}
+use Rattle.refusal.specs.declared.Refusal.{Refusal}
 use Rattle.circuit.specs.declared.Gate.{Gate}
 use Rattle.circuit.specs.declared.Gate.TheVariants.{Cnot, Phase, Inverter}
 use Rattle.circuit.specs.File.{version_of, wires_of, gates_of, file_of}
 use Rattle.cancel.specs.declared.Cancelled.{Cancelled}
-use Rattle.cancel.specs.declared.Cancelled.TheVariants.{File}
 use Rattle.cancel.specs.Cancel.{twins, begins, paired, steps}
 
 -- a step, so many times
@@ -48,5 +48,5 @@ LeavesBy rule input answer after =
     after ≡ file ++ drop (length file) input.2
 
 -- one that says how many gates went
-abbrev pub CountsGates : List ℕ × ℕ × List ℕ → Cancelled → List ℕ → Type 0
-CountsGates input answer after = (l : ℕ) × (answer ≡ File l (2 * steps input.1 (gates_of input.0)))
+abbrev pub CountsGates : List ℕ × ℕ × List ℕ → Result Cancelled Refusal → List ℕ → Type 0
+CountsGates input answer after = (l : ℕ) × (answer ≡ Ok (record { length = l; pairs = 2 * steps input.1 (gates_of input.0) }))

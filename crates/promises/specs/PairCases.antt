@@ -1,8 +1,7 @@
 -- 02 §9: ten cases of cancelling, each of which lends a slice that is just as long as the result.
-use Rattle.std.specs.Prelude.{ℕ, List, [], ◌∷◌, length}
+use Rattle.std.specs.Prelude.{ℕ, List, [], ◌∷◌, length, Ok}
 use Rattle.circuit.specs.declared.Gate.TheVariants.{Cnot, Phase, Inverter}
 use Rattle.circuit.specs.File.{file_of}
-use Rattle.cancel.specs.declared.Cancelled.TheVariants.{File as Left}
 use Rattle.cancel.specs.Cancel.{Cancels}
 use Rattle.promises.specs.Cases.{zeros, empty, one_cnot, on_one}
 
@@ -11,7 +10,7 @@ pub data PairCase : Type 0 where
   cancels : List ℕ → ℕ → List ℕ → ℕ → PairCase
 
 abbrev pub HoldsOfPairs : PairCase → Type 0
-HoldsOfPairs (cancels f most g n) = Cancels f most (zeros g) (Left (length g) n) g
+HoldsOfPairs (cancels f most g n) = Cancels f most (zeros g) (Ok (record { length = length g; pairs = n })) g
 
 abbrev pub AllHoldOfPairs : List PairCase → Type 0
 AllHoldOfPairs [] = Unit {0}
