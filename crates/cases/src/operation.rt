@@ -2,15 +2,12 @@
 use crate::print::{answers, number, refused};
 use crate::request::{Operation, Request};
 use crate::{lent, print};
-use build::Built;
-use circuit::{Decoded, Gate, Reading};
+use circuit::{Gate, Header, Placed};
 use fold::Folded;
-use listing::Listed;
+use refusal::{Reason, Refusal};
 use running::{Counted, Ran};
-use spectrum::Transformed;
 use std::io;
-use table::Checked;
-use verdict::{Compared, Verdict};
+use verdict::Verdict;
 
 pub(crate) fn line(rt: &impl Print, r: Request, first: &[u8], second: &[u8]) -> io::Result<()> {
     print!(rt; "{:8} {} {} {}", r.named, r.a, r.b, r.room)?;
@@ -36,8 +33,8 @@ pub(crate) fn line(rt: &impl Print, r: Request, first: &[u8], second: &[u8]) -> 
 fn lend_nothing(rt: &impl Print, op: Operation, a: u8, b: u16, first: &[u8]) -> io::Result<()> {
     match op {
         Operation::Check => match table::check(a, first) {
-            Checked::Good => print!(rt; ": answers"),
-            Checked::Refused(refusal) => refused(rt, refusal),
+            Ok(()) => print!(rt; ": answers"),
+            Err(refusal) => refused(rt, refusal),
         },
         Operation::Value => answers(rt, table::value(first, b as usize) as usize),
         Operation::Decode => decode(rt, a, b as usize, first),
@@ -58,9 +55,9 @@ fn decode(rt: &impl Print, w: u8, position: usize, first: &[u8]) -> io::Result<(
 
 // 1, control, target and position of a CNOT; 2, wire, angle and position of a phase; 3, wire, 0 and position of an
 // inverter; 0 and the reason for bad.
-fn gate(rt: &impl Print, answer: Decoded) -> io::Result<()> {
+fn gate(rt: &impl Print, answer: Result<Placed, Reason>) -> io::Result<()> {
     match answer {
-        Decoded::Good(placed) => {
+        Ok(placed) => {
             let gate = placed.gate;
             match gate {
                 Gate::Cnot { control, target } => {
@@ -81,15 +78,15 @@ fn gate(rt: &impl Print, answer: Decoded) -> io::Result<()> {
             }
             number(rt, placed.position)
         }
-        Decoded::Bad(reason) => {
+        Err(reason) => {
             answers(rt, 0)?;
-            number(rt, circuit::reason_number(reason) as usize)
+            number(rt, reason.number() as usize)
         }
     }
 }
 
 // 01's reader, or what it is made of where another side is asked for.
-fn reading(side: u8, file: &[u8]) -> Reading {
+fn reading(side: u8, file: &[u8]) -> Result<Header, Refusal> {
     if side == 0 {
         return circuit::read(file);
     }
@@ -100,32 +97,34 @@ fn reading(side: u8, file: &[u8]) -> Reading {
 fn read(rt: &impl Print, op: Operation, side: u8, start: u16, file: &[u8]) -> io::Result<()> {
     match op {
         Operation::Read => match reading(side, file) {
-            Reading::Circuit { wires, gates } => {
+            Ok(Header { wires, gates }) => {
                 answers(rt, wires as usize)?;
                 number(rt, gates)
             }
-            Reading::Refused(refusal) => refused(rt, refusal),
+            Err(refusal) => refused(rt, refusal),
         },
         Operation::Run => match running::run(file, start) {
-            Ran::End { state, phase } => {
+            Ok(Ran { state, phase }) => {
                 answers(rt, state as usize)?;
                 number(rt, phase as usize)
             }
-            Ran::Refused(refusal) => refused(rt, refusal),
+            Err(refusal) => refused(rt, refusal),
         },
         _ => match running::count(file) {
-            Counted::Gates {
-                cnots,
-                phases,
-                score,
-                inverters,
-            } => {
+            Ok(
+                Counted {
+                    cnots,
+                    phases,
+                    score,
+                    inverters,
+                },
+            ) => {
                 answers(rt, cnots)?;
                 number(rt, phases)?;
                 number(rt, score)?;
                 number(rt, inverters)
             }
-            Counted::Refused(refusal) => refused(rt, refusal),
+            Err(refusal) => refused(rt, refusal),
         },
     }
 }
@@ -138,8 +137,8 @@ fn spectrum(rt: &impl Print, n: u8, room: u16, table: &[u8]) -> io::Result<()> {
     };
     lent::fill(out);
     match spectrum::spectrum(n, table, out) {
-        Transformed::Entries(entries) => answers(rt, entries)?,
-        Transformed::Refused(refusal) => refused(rt, refusal)?,
+        Ok(entries) => answers(rt, entries)?,
+        Err(refusal) => refused(rt, refusal)?,
     }
     lent::print_sums(rt, out)
 }
@@ -156,20 +155,22 @@ fn lend_bytes(rt: &impl Print, op: Operation, a: u8, room: u16, first: &[u8]) ->
 fn write(rt: &impl Print, op: Operation, a: u8, first: &[u8], out: &mut [u8]) -> io::Result<()> {
     match op {
         Operation::Build => match build::build(a, first, out) {
-            Built::Length(length) => answers(rt, length),
-            Built::Refused(refusal) => refused(rt, refusal),
+            Ok(length) => answers(rt, length),
+            Err(refusal) => refused(rt, refusal),
         },
         Operation::Fold => match fold::fold(first, out) {
-            Folded::File {
-                length,
-                before,
-                after,
-            } => {
+            Ok(
+                Folded {
+                    length,
+                    before,
+                    after,
+                },
+            ) => {
                 answers(rt, length)?;
                 number(rt, before)?;
                 number(rt, after)
             }
-            Folded::Refused(refusal) => refused(rt, refusal),
+            Err(refusal) => refused(rt, refusal),
         },
         Operation::List => text(rt, listing::list(first, a == 1, out)),
         Operation::Oracle => text(rt, oracle_listing::oracle_listing(first, out)),
@@ -178,10 +179,10 @@ fn write(rt: &impl Print, op: Operation, a: u8, first: &[u8], out: &mut [u8]) ->
     }
 }
 
-fn text(rt: &impl Print, answer: Listed) -> io::Result<()> {
+fn text(rt: &impl Print, answer: Result<usize, Refusal>) -> io::Result<()> {
     match answer {
-        Listed::Length(length) => answers(rt, length),
-        Listed::Refused(refusal) => refused(rt, refusal),
+        Ok(length) => answers(rt, length),
+        Err(refusal) => refused(rt, refusal),
     }
 }
 
@@ -217,9 +218,9 @@ fn settle(
 }
 
 // 0 for Same; 1, the state, both ends and the phase for Different.
-fn verdict(rt: &impl Print, answer: Compared) -> io::Result<()> {
+fn verdict(rt: &impl Print, answer: Result<Verdict, Refusal>) -> io::Result<()> {
     match answer {
-        Compared::Found(verdict) => match verdict {
+        Ok(verdict) => match verdict {
             Verdict::Same => answers(rt, 0),
             Verdict::Different {
                 state,
@@ -234,6 +235,6 @@ fn verdict(rt: &impl Print, answer: Compared) -> io::Result<()> {
                 number(rt, phase as usize)
             }
         },
-        Compared::Refused(refusal) => refused(rt, refusal),
+        Err(refusal) => refused(rt, refusal),
     }
 }

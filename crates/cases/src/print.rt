@@ -34,7 +34,10 @@ pub(crate) fn answers(rt: &impl Print, value: usize) -> io::Result<()> {
 pub(crate) fn refused(rt: &impl Print, r: Refusal) -> io::Result<()> {
     print!(rt;
         ": refused {} side {} position {} reason {}",
-        r.number, r.side, r.position, r.reason
+        r.cause.number(),
+        r.side,
+        r.position,
+        r.reason.map_or(0, |reason| reason.number())
     )
 }
 

@@ -1,5 +1,5 @@
 // A gate's four bytes and the header's eight, written.
-ghost use Rattle.std.specs.Prelude.{◌≡◌, [], ◌∷◌};
+ghost use Rattle.std.specs.Prelude.{◌≡◌};
 ghost use Rattle.circuit.specs.Bytes.{put_at};
 ghost use Rattle.circuit.specs.Gates.{gate_bytes};
 ghost use Rattle.circuit.specs.File.{header_bytes};
@@ -8,20 +8,13 @@ ghost use Rattle.circuit.specs.Working.{header_of};
 use crate::Gate;
 use crate::decoder::sixteen_bits;
 
-// Four bytes at `at`; where they do not all fit, nothing is written.
-fn put_four(out: &mut [u8], at: usize, a: u8, b: u8, c: u8, d: u8)
-    ensures { out.new ≡ put_at (a ∷ b ∷ c ∷ d ∷ []) at out.old }
+// Bytes at `at`; where they do not all fit, nothing is written.
+fn put(bytes: &[u8], out: &mut [u8], at: usize)
+    ensures { out.new ≡ put_at bytes.now at out.old }
 {
-    if out.len() < 4 {
-        return;
+    if bytes.len() <= out.len() && at <= out.len() - bytes.len() {
+        out[at..at + bytes.len()].copy_from_slice(bytes);
     }
-    if out.len() - 4 < at {
-        return;
-    }
-    out[at] = a;
-    out[at + 1] = b;
-    out[at + 2] = c;
-    out[at + 3] = d;
 }
 
 // A gate's four bytes.
@@ -39,26 +32,30 @@ fn gate_bytes(gate: Gate) -> [u8; 4]
 pub fn put_gate(gate: Gate, out: &mut [u8], at: usize)
     ensures { out.new ≡ put_at (gate_bytes gate) at out.old }
 {
-    let bytes = gate_bytes(gate);
-    put_four(out, at, bytes[0], bytes[1], bytes[2], bytes[3])
+    put(&gate_bytes(gate), out, at)
+}
+
+// A header's eight bytes.
+fn header_bytes(version: u16, wires: u8, gates: u16) -> [u8; 8]
+    ensures { result ≡ header_bytes version wires gates }
+{
+    [
+        0x50,
+        0x48,
+        0x47,
+        (version / 256) as u8,
+        (version % 256) as u8,
+        wires,
+        (gates / 256) as u8,
+        (gates % 256) as u8,
+    ]
 }
 
 // A file's header at the front; where it does not fit, nothing is written.
 pub fn put_header(version: u16, wires: u8, gates: u16, out: &mut [u8])
     ensures { out.new ≡ put_at (header_bytes version wires gates) 0 out.old }
 {
-    if out.len() < 8 {
-        return;
-    }
-    put_four(out, 0, 0x50, 0x48, 0x47, (version / 256) as u8);
-    put_four(
-        out,
-        4,
-        (version % 256) as u8,
-        wires,
-        (gates / 256) as u8,
-        (gates % 256) as u8,
-    )
+    put(&header_bytes(version, wires, gates), out, 0)
 }
 
 // A file's header with another number of gates, at the front; nothing is written where the file has no header or where it does not fit.

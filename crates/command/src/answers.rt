@@ -1,52 +1,40 @@
 // The lines of an answer, on standard output.
-use refusal::Refusal;
+use refusal::{Cause, Refusal};
 use std::io;
 use verdict::Verdict;
 
 pub(crate) fn refused(rt: &impl Print, r: Refusal) -> io::Result<()> {
-    let (name, rule) = row(r.number);
-    println!(rt;
-        "refused {}{name} side {} position {}{}: {rule}",
-        r.number,
+    print!(rt;
+        "refused {} {} side {} position {}",
+        r.cause.number(),
+        r.cause,
         r.side,
-        r.position,
-        reason(r.reason)
-    )
-}
-
-// The name and the words of a row of document 01's table, or of a refusal of 02. No operation gives
-// another number.
-fn row(number: u8) -> (&'static str, &'static str) {
-    match number {
-        1 => (" VARS", "n is 0 or above 8"),
-        2 => (" TABLE", "the table's length is wrong"),
-        3 => (" PAD", "an unused table bit is 1"),
-        4 => (" SHORT", "the file is under 8 bytes"),
-        5 => (" MARK", "the mark is wrong"),
-        6 => (" VERSION", "the version is neither 1 nor 2"),
-        7 => (" WIRES", "the wires are 0 or above 10"),
-        8 => (" COUNT", "the gate count is above 2048"),
-        9 => (
-            " LENGTH",
-            "the file's length is not 8 + 4 times the gate count",
-        ),
-        10 => (" GATE", "some gate is bad"),
-        11 => (" STATE", "the start is not below 2^w"),
-        12 => (" UNLIKE", "the wire counts differ"),
-        13 => (" ROOM", "the room is too small"),
-        17 => (" LOOSE", "a wire does not end as it starts"),
-        _ => ("", ""),
+        r.position
+    )?;
+    if let Some(reason) = r.reason {
+        print!(rt; " reason {reason}")?;
     }
+    println!(rt; ": {}", rule(r.cause))
 }
 
-// What is wrong with a bad gate; nothing for the other refusals.
-fn reason(reason: u8) -> &'static str {
-    match reason {
-        1 => " reason kind",
-        2 => " reason wire",
-        3 => " reason equal",
-        4 => " reason spare",
-        _ => "",
+// The words of a row of document 01's table, or of a refusal of 02.
+fn rule(cause: Cause) -> &'static str {
+    match cause {
+        Cause::Vars => "n is 0 or above 8",
+        Cause::Table => "the table's length is wrong",
+        Cause::Pad => "an unused table bit is 1",
+        Cause::Short => "the file is under 8 bytes",
+        Cause::Mark => "the mark is wrong",
+        Cause::Version => "the version is neither 1 nor 2",
+        Cause::Wires => "the wires are 0 or above 10",
+        Cause::Count => "the gate count is above 2048",
+        Cause::Length => "the file's length is not 8 + 4 times the gate count",
+        Cause::Gate => "some gate is bad",
+        Cause::State => "the start is not below 2^w",
+        Cause::Unlike => "the wire counts differ",
+        Cause::Room => "the room is too small",
+        Cause::Loose => "a wire does not end as it starts",
+        Cause::Allow => "the allowance is above 2048",
     }
 }
 
@@ -54,9 +42,9 @@ pub(crate) fn wrote(rt: &impl Print, length: usize) -> io::Result<()> {
     println!(rt; "wrote {length} bytes")
 }
 
-// The first numbers of a row, one a line.
-pub(crate) fn signed(rt: &impl Print, row: &[i32], entries: usize) -> io::Result<()> {
-    for x in row.iter().take(entries) {
+// The numbers of a row, one a line.
+pub(crate) fn signed(rt: &impl Print, row: &[i32]) -> io::Result<()> {
+    for x in row {
         println!(rt; "{x}")?;
     }
     Ok(())

@@ -1,13 +1,13 @@
 // The commands that take a circuit file first.
 use crate::commands::{Call, Command};
 use crate::{answers, files};
-use circuit::Reading;
+use circuit::Header;
 use fold::Folded;
-use listing::Listed;
+use refusal::Refusal;
 use running::{Counted, Ran};
 use std::io;
 use std::rt::Files;
-use verdict::Compared;
+use verdict::Verdict;
 
 pub(crate) fn call(
     rt: &(impl Files + Input + Print),
@@ -31,8 +31,8 @@ pub(crate) fn call(
 
 fn read(rt: &impl Print, file: &[u8]) -> io::Result<()> {
     match circuit::read(file) {
-        Reading::Refused(r) => answers::refused(rt, r),
-        Reading::Circuit { wires, gates } => println!(rt; "wires {wires} gates {gates}"),
+        Err(r) => answers::refused(rt, r),
+        Ok(Header { wires, gates }) => println!(rt; "wires {wires} gates {gates}"),
     }
 }
 
@@ -41,20 +41,22 @@ fn run(rt: &impl Print, file: &[u8], word: &[u8], errors: &impl Print) -> io::Re
         return Ok(());
     };
     match running::run(file, start) {
-        Ran::Refused(r) => answers::refused(rt, r),
-        Ran::End { state, phase } => println!(rt; "end {state} phase {phase}"),
+        Err(r) => answers::refused(rt, r),
+        Ok(Ran { state, phase }) => println!(rt; "end {state} phase {phase}"),
     }
 }
 
 fn count(rt: &impl Print, file: &[u8]) -> io::Result<()> {
     match running::count(file) {
-        Counted::Refused(r) => answers::refused(rt, r),
-        Counted::Gates {
-            cnots,
-            phases,
-            score,
-            inverters,
-        } => println!(rt; "cnots {cnots} phases {phases} score {score} inverters {inverters}"),
+        Err(r) => answers::refused(rt, r),
+        Ok(
+            Counted {
+                cnots,
+                phases,
+                score,
+                inverters,
+            },
+        ) => println!(rt; "cnots {cnots} phases {phases} score {score} inverters {inverters}"),
     }
 }
 
@@ -66,12 +68,14 @@ fn fold(
 ) -> io::Result<()> {
     let mut out = [0; files::FILE_ROOM];
     match fold::fold(file, &mut out) {
-        Folded::Refused(r) => answers::refused(rt, r),
-        Folded::File {
-            length,
-            before,
-            after,
-        } => {
+        Err(r) => answers::refused(rt, r),
+        Ok(
+            Folded {
+                length,
+                before,
+                after,
+            },
+        ) => {
             if files::store(rt, name, &out[..length], errors)? {
                 println!(rt; "length {length} score {before} to {after}")?;
                 return answers::wrote(rt, length);
@@ -86,13 +90,13 @@ pub(crate) const WORK_ROOM: usize = 1024;
 
 pub(crate) fn compared(
     rt: &impl Print,
-    found: Compared,
+    found: Result<Verdict, Refusal>,
     differences: bool,
     work: &[u16],
 ) -> io::Result<()> {
     match found {
-        Compared::Refused(r) => answers::refused(rt, r),
-        Compared::Found(verdict) => {
+        Err(r) => answers::refused(rt, r),
+        Ok(verdict) => {
             answers::verdict(rt, verdict)?;
             if differences {
                 return answers::differences(rt, work);
@@ -131,8 +135,8 @@ fn list(
 ) -> io::Result<()> {
     let mut text = [0; TEXT_ROOM];
     match listing::list(file, wrapped, &mut text) {
-        Listed::Refused(r) => answers::refused(rt, r),
-        Listed::Length(length) => {
+        Err(r) => answers::refused(rt, r),
+        Ok(length) => {
             let lines = &text[..length];
             if name.is_empty() {
                 return rt.write_all(lines);

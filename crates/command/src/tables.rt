@@ -1,8 +1,6 @@
 // The commands that take a table.
 use crate::commands::{Call, Command};
 use crate::{answers, circuits, files};
-use build::Built;
-use spectrum::Transformed;
 use std::io;
 use std::rt::Files;
 
@@ -26,8 +24,8 @@ pub(crate) fn call(
 fn spectrum(rt: &impl Print, n: u8, table: &[u8]) -> io::Result<()> {
     let mut out = [0i32; 256];
     match spectrum::spectrum(n, table, &mut out) {
-        Transformed::Refused(r) => answers::refused(rt, r),
-        Transformed::Entries(entries) => answers::signed(rt, &out, entries),
+        Err(r) => answers::refused(rt, r),
+        Ok(entries) => answers::signed(rt, &out[..entries]),
     }
 }
 
@@ -40,8 +38,8 @@ fn build(
 ) -> io::Result<()> {
     let mut out = [0u8; 4096];
     match build::build(n, table, &mut out) {
-        Built::Refused(r) => answers::refused(rt, r),
-        Built::Length(length) => {
+        Err(r) => answers::refused(rt, r),
+        Ok(length) => {
             if files::store(rt, name, &out[..length], errors)? {
                 return answers::wrote(rt, length);
             }

@@ -16,7 +16,7 @@ fn add_angle(totals: &mut [u16], group: u16, angle: u16)
 {
     let n = group as usize;
     if n < totals.len() {
-        totals[n] = std::num::wrapping_add_u16(totals[n], angle);
+        totals[n] = totals[n].wrapping_add(angle);
     }
 }
 

@@ -4,6 +4,8 @@
 ghost use Rattle.std.specs.Prelude.{◌≡◌};
 ghost use Rattle.refusal.specs.Names.{refusal, refusal_at, number_of, reason_number};
 
+use std::fmt;
+
 // Each with its number in 01's table; those from 14 on are 02's.
 #[derive(Clone, Copy, PartialEq, Eq)]
 pub enum Cause {
@@ -32,6 +34,29 @@ impl Cause {
     }
 }
 
+// By its name in the table.
+impl fmt::Display for Cause {
+    fn fmt<W: fmt::Write>(&self, f: &mut fmt::Formatter<W>) -> fmt::Result {
+        f.write_str(match self {
+            Cause::Vars => "VARS",
+            Cause::Table => "TABLE",
+            Cause::Pad => "PAD",
+            Cause::Short => "SHORT",
+            Cause::Mark => "MARK",
+            Cause::Version => "VERSION",
+            Cause::Wires => "WIRES",
+            Cause::Count => "COUNT",
+            Cause::Length => "LENGTH",
+            Cause::Gate => "GATE",
+            Cause::State => "STATE",
+            Cause::Unlike => "UNLIKE",
+            Cause::Room => "ROOM",
+            Cause::Loose => "LOOSE",
+            Cause::Allow => "ALLOW",
+        })
+    }
+}
+
 // What is wrong with a bad gate: its kind, a wire, equal wires or the spare byte.
 #[derive(Clone, Copy, PartialEq, Eq)]
 pub enum Reason {
@@ -57,6 +82,17 @@ pub struct Refusal {
     pub side: u8,
     pub position: usize,
     pub reason: Option<Reason>,
+}
+
+impl fmt::Display for Reason {
+    fn fmt<W: fmt::Write>(&self, f: &mut fmt::Formatter<W>) -> fmt::Result {
+        f.write_str(match self {
+            Reason::Kind => "kind",
+            Reason::Wire => "wire",
+            Reason::Equal => "equal",
+            Reason::Spare => "spare",
+        })
+    }
 }
 
 impl Refusal {

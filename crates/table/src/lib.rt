@@ -44,7 +44,7 @@ fn bit_of(byte: u8, place: usize) -> u8
 fn byte_at(table: &[u8], i: usize) -> u8
     ensures { result ≡ get_or table.now i 0 }
 {
-    if i < table.len() { table[i] } else { 0 }
+    table.get(i).copied().unwrap_or(0)
 }
 
 // The table's length.
