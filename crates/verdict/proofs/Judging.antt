@@ -1,5 +1,5 @@
 -- Summaries judged by their numbers give the verdict on their sides.
-use Rattle.std.proofs.Common.{◌≡◌, ℕ, zero, suc, ◌+◌, ◌-◌, ◌*◌, ◌/◌, ◌%◌, ◌^◌, ◌<◌, ◌≤◌, min, List, take, drop, get_or, get_or-take, get_or-drop, sym, refl, ap, ◌∙◌, ap₂, mod-eq_of_lt, one-mul, add-one, arith, le-ltb, lt-ltb}
+use Rattle.std.proofs.Common.{◌≡◌, ℕ, zero, suc, ◌+◌, ◌-◌, ◌*◌, ◌/◌, ◌%◌, ◌^◌, ◌<◌, ◌≤◌, min, Bool, List, take, drop, get_or, get_or-take, get_or-drop, sym, refl, ap, ◌∙◌, ap₂, mod-eq_of_lt, one-mul, add-one, arith, le-ltb, lt-ltb}
 use native.Mathlib.Nat.{min-eq_left, min-eq_right}
 use native.Mathlib.Decide.{dec_lt}
 use lib.Bits.{bit_xor}
@@ -13,7 +13,7 @@ use Rattle.numbers.specs.Turn.{difference}
 use Rattle.numbers.proofs.Sums.{sum_of-ext}
 use Rattle.numbers.proofs.Lists.{list_ext}
 use Rattle.numbers.proofs.Digits.{by_bits}
-use Rattle.numbers.proofs.Search.{Lowest, lowest_map, unlike_found}
+use Rattle.numbers.proofs.Search.{Lowest, least_found, lowest_map, unlike_found}
 use Rattle.running.specs.Masks.{most_wires}
 use Rattle.coefficients.specs.Coefficients.{listed_start}
 use Rattle.coefficients.specs.Working.{entry}
@@ -49,22 +49,32 @@ half_power : (j : ℕ) → 2 ^ j / 2 ≡ listed_start j
 half_power zero = refl
 half_power (suc j) = omega arith
 
+-- a search ends within its numbers
+pub found_within : (test : ℕ → Bool) (n : ℕ) {r : ℕ} → r ≡ least test n 0 → r ≤ n
+found_within test n e = omega (arith, e, (least_found test n 0).most)
+
 module _ (w : ℕ) (x y : Summary) where
   -- the lower of a place and a listed start
-  module _ (place listed power start : ℕ) (few : w ≤ most_wires) (e : place ≡ least (unlike x.coefficients y.coefficients) (2 ^ w) 0) (d : listed ≡ least (unlike x.ends y.ends) (suc w) 0)
-      (q : power ≡ 1 * 2 ^ listed % 2 ^ 64) (h : start ≡ power / 2) where
-    start_is : start ≡ listed_start listed
-    start_is =
-        h ∙ ap (◌/ 2) (q ∙ ap (◌% 2 ^ 64) (one-mul (2 ^ listed)) ∙ mod-eq_of_lt (pow-lt {i = listed} {j = 64} (omega (arith, (unlike_found x.ends y.ends (suc w)).within)))) ∙ half_power listed
+  module _ (place listed : ℕ) (few : w ≤ most_wires) (e : place ≡ least (unlike x.coefficients y.coefficients) (2 ^ w) 0) where
+    abbrev start : ℕ
+    start = 1 * 2 ^ listed % 2 ^ 64 / 2
 
-    both : min place (listed_start listed) ≡ lowest_place w x y
-    both = ap₂ (λ (m n : ℕ). min m (listed_start n)) e d
+    module _ (d : listed ≡ least (unlike x.ends y.ends) (w + 1) 0) where
+      found : listed ≡ least (unlike x.ends y.ends) (suc w) 0
+      found = d ∙ ap (λ (n : ℕ). least (unlike x.ends y.ends) n 0) (add-one w)
 
-    pub place_first : place < start → place ≡ lowest_place w x y
-    place_first h = sym (min-eq_left (let z : place ≤ listed_start listed = omega (arith, start_is) in z)) ∙ both
+      start_is : start ≡ listed_start listed
+      start_is =
+          ap (◌/ 2) (ap (◌% 2 ^ 64) (one-mul (2 ^ listed)) ∙ mod-eq_of_lt (pow-lt {i = listed} {j = 64} (omega (arith, found, (unlike_found x.ends y.ends (suc w)).within)))) ∙ half_power listed
 
-    pub start_first : start ≤ place → start ≡ lowest_place w x y
-    start_first h = start_is ∙ sym (min-eq_right (let z : listed_start listed ≤ place = omega (arith, start_is) in z)) ∙ both
+      both : min place (listed_start listed) ≡ lowest_place w x y
+      both = ap₂ (λ (m n : ℕ). min m (listed_start n)) e found
+
+    pub place_first : place < start → listed ≡ least (unlike x.ends y.ends) (w + 1) 0 → place ≡ lowest_place w x y
+    place_first h d = sym (min-eq_left (let z : place ≤ listed_start listed = omega (arith, start_is d) in z)) ∙ both d
+
+    pub start_first : start ≤ place → listed ≡ least (unlike x.ends y.ends) (w + 1) 0 → start ≡ lowest_place w x y
+    start_first h d = start_is d ∙ sym (min-eq_right (let z : listed_start listed ≤ place = omega (arith, start_is d) in z)) ∙ both d
 
   -- what the scan answers
   module _ (p : ℕ) (e : p ≡ lowest_place w x y) where
