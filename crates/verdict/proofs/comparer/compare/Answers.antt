@@ -1,11 +1,9 @@
-use Rattle.std.proofs.Common.{◌++◌, length, refl, sym, subst}
+use Rattle.std.proofs.Common.{refl, sym, subst}
 use Rattle.refusal.proofs.Outcomes.{then_refused}
 use Rattle.refusal.proofs.Contracts.{first_refuses, second_refuses}
-use Rattle.circuit.specs.File.{wires_of, gates_of, file_checks}
-use Rattle.coefficients.specs.Coefficients.{coefficient}
+use Rattle.circuit.specs.File.{file_checks}
 use Rattle.coefficients.proofs.Callers.{summarise_refuses}
-use Rattle.verdict.specs.Verdicts.{circuit, verdict, differences}
-use Rattle.verdict.specs.Judging.{verdict_values, compared_says, work_checks}
+use Rattle.verdict.specs.Judging.{compared_says}
 use Rattle.std.specs.Prelude.{Err}
 use Rattle.refusal.proofs.Contracts.{handed_on}
 use Rattle.verdict.specs.Judging.{Compares}
@@ -23,7 +21,7 @@ returns-in_err-wires c =
     let f = a.first.now in
     let g = a.second.now in
     subst (λ r. Compares f g a.work.now r a.work.now) (sym (handed_on c.from_residual.ensures.1))
-    (first_refuses compared_says (file_checks 0 f) (file_checks 1 g ++ work_checks (wires_of f) (wires_of g) (length a.work.now)) (verdict_values (verdict (wires_of f) (circuit (gates_of f)) (circuit (gates_of g)))) (differences (wires_of f) (coefficient (wires_of f) (gates_of f)) (coefficient (wires_of f) (gates_of g))) a.work.now (Err _) _ refl (summarise_refuses 0 f _ _ c.summarise.result _ _ c.summarise.ensures _ c.in_err-wires.was).refuses)
+    (first_refuses compared_says (file_checks 0 f) _ _ _ a.work.now (Err _) _ refl (summarise_refuses 0 f _ _ c.summarise.result _ _ c.summarise.ensures _ c.in_err-wires.was).refuses)
 
 pub invariant_of-judge_summaries : goal.invariant_of-judge_summaries
 invariant_of-judge_summaries c = record { holds = (first_sums (goal.at.invariant_of-judge_summaries c).After-summarise-2).holds }
@@ -38,11 +36,10 @@ returns-in_err-width c =
     let a = c.args in
     let f = a.first.now in
     let g = a.second.now in
-    let w = wires_of f in
     let first = first_sums (goal.at.returns-in_err-width c).After-summarise-2 in
     subst (λ r. Compares f g a.work.now r a.work.now) (sym (handed_on c.from_residual-in_err-width.ensures.1))
-    (second_refuses compared_says (file_checks 0 f) (file_checks 1 g ++ work_checks w (wires_of g) (length a.work.now)) (verdict_values (verdict w (circuit (gates_of f)) (circuit (gates_of g)))) (differences w (coefficient w (gates_of f)) (coefficient w (gates_of g))) a.work.now first.good (Err _) _ refl
-    (then_refused (file_checks 1 g) (work_checks w (wires_of g) (length a.work.now)) _ (summarise_refuses 1 g _ _ c.summarise-2.result _ _ c.summarise-2.ensures _ c.in_err-width.was).refuses))
+    (second_refuses compared_says (file_checks 0 f) _ _ _ a.work.now first.good (Err _) _ refl
+    (then_refused (file_checks 1 g) _ _ (summarise_refuses 1 g _ _ c.summarise-2.result _ _ c.summarise-2.ensures _ c.in_err-width.was).refuses))
 
 pub returns : goal.returns
 returns c =
