@@ -83,12 +83,6 @@ shown n = cond (ltb 0 n) (decimal n) []
 abbrev pub leading : ℕ → List ℕ
 leading n = cond (ltb 0 n) (digit (n % 10)) []
 
-pub leading_none : (n : ℕ) → n ≤ 0 → [] ≡ leading n
-leading_none n h = rw (le-ltb 0 n h)
-
-pub leading_some : (n : ℕ) → 0 < n → digit (n % 10) ≡ leading n
-leading_some n h = rw (lt-ltb 0 n h)
-
 -- the last digit, and what stands before it
 before_last : (n : ℕ) → decimal n ≡ shown (n / 10) ++ digit (n % 10)
 before_last n = by (dec_lt n 10)

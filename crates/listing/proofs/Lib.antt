@@ -2,7 +2,6 @@ pub mod Decimals
 pub mod Fractions
 pub mod Lengths
 pub mod Wrapping
-mod Writing
 mod Pieces
 mod Loops
 mod Answers

@@ -6,13 +6,10 @@ use lib.ListN.{length}
 use Rattle.circuit.specs.File.{gates_of}
 use Rattle.circuit.specs.Working.{said_gates}
 use Rattle.circuit.proofs.Callers.{GoodFile, good_circuit}
-use Rattle.circuit.proofs.Walks.{Walk, walk_starts, walk_goes_on, walk_ends}
+use Rattle.circuit.proofs.Walks.{Walk, walk_goes_on, walk_ends}
 use Rattle.listing.specs.Listing.{gate_lines}
 use Rattle.listing.proofs.Loops.{longer, longer_walked, part_fits}
 use Rattle.listing.proofs.lines_length.Goals as goal
-
-pub loop-gate-init : goal.loop-gate-init
-loop-gate-init c = walk_starts longer (gates_of c.args.circuit.now.file.now) 0 (ap (λ s. said_gates s.left.now) c.into_iter-gate-iterator.ensures.into_iter_gives ∙ c.gates-gate-items.ensures)
 
 pub overflow_add-total : goal.overflow_add-total
 overflow_add-total c =

@@ -1,27 +1,13 @@
-use Prim.Native.Nat.{suc, ◌^◌}
-use native.Mathlib.Omega.{arith}
 use mathlib.Core.Path.{◌≡◌, ap, ◌∙◌}
-use lib.ListN.{length}
-use Rattle.numbers.proofs.Lists.{length-list}
 use Rattle.circuit.specs.File.{wires_of, gates_of}
 use Rattle.circuit.proofs.Callers.{good_circuit}
 use Rattle.running.specs.Masks.{most_wires}
 use Rattle.running.specs.Working.{own_numbers, numbers_from}
-use Rattle.running.proofs.Masks.{length-numbers}
 use Rattle.listing.proofs.Wrapping.{plain_asked, wrapped_asked, lowest_asked}
 use Rattle.listing.proofs.loose.is_loose.Goals as goal
 
 pub returns-then-not-wrapped : goal.returns-then-not-wrapped
 returns-then-not-wrapped c = let f = c.args.circuit.now.file.now in plain_asked (wires_of f) (gates_of f) c.args.wrapped c.if-not-wrapped.true
-
-pub lowest_loose-requires : goal.lowest_loose-requires
-lowest_loose-requires c =
-    let gs = gates_of c.args.circuit.now.file.now in
-    let few = (good_circuit c.args.circuit.now.good).few in
-    let w = c.wires-wires.ensures in
-    let held : c.pass_all.new.held ≡ numbers_from gs (own_numbers most_wires) = c.pass_all.ensures ∙ ap (numbers_from gs) c.own_held-held.ensures in
-    let ten : length c.pass_all.new.held ≡ most_wires = ap length held ∙ length-numbers gs (own_numbers most_wires) ∙ length-list most_wires (λ i. 2 ^ suc i) in
-    (omega arith, omega arith)
 
 pub returns : goal.returns
 returns c =

@@ -1,15 +1,11 @@
 use mathlib.Core.Path.{refl, ap, ◌∙◌}
 use lib.ListN.{length}
 use Rattle.circuit.specs.File.{gates_of}
-use Rattle.circuit.specs.Working.{said_gates}
-use Rattle.circuit.proofs.Walks.{walk_starts, walk_goes_on, walk_ends}
+use Rattle.circuit.proofs.Walks.{walk_goes_on, walk_ends}
 use Rattle.running.specs.Working.{numbers_after}
 use Rattle.running.proofs.Masks.{length-after}
 use Rattle.running.proofs.Walks.{held_walked}
 use Rattle.listing.proofs.loose.pass_all.Goals as goal
-
-pub loop-gate-init : goal.loop-gate-init
-loop-gate-init c = (walk_starts numbers_after (gates_of c.args.circuit.now.file.now) c.args.held.now (ap (λ s. said_gates s.left.now) c.into_iter-gate-iterator.ensures.into_iter_gives ∙ c.gates-gate-items.ensures), refl)
 
 pub loop-gate-preserved : goal.loop-gate-preserved
 loop-gate-preserved c = (
