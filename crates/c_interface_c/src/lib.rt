@@ -1,4 +1,4 @@
-// What callers in C link: each function of c_interface under its own name. phg.h has the rules that a caller keeps, and what the numbers say.
+// What callers in C link: each function of c_interface under its own name, as the C interface needs it. phg.h has the rules that a caller keeps, and what the numbers say.
 #![tactic(auto)]
 
 ghost use Rattle.std.specs.Prelude.{◌≡◌, eqb, not};

@@ -28,7 +28,7 @@ fn is_cnot(gate: Gate, control: u8, target: u8) -> bool
     }
 }
 
-// Whether two gates are the same CNOT.
+// Whether two gates are the same CNOT: `==` would hold of two phases and two inverters too.
 fn are_twins(one: Gate, other: Gate) -> bool
     ensures { result ≡ twins one other }
 {
@@ -60,6 +60,7 @@ pub(crate) fn pass(circuit: &Circuit, most: usize, row: &mut [u16]) -> Kept
 {
     let mut kept: usize = 0;
     let mut pairs: usize = 0;
+    // by position, since positions are what is kept
     for i in 0..circuit.gate_count() {
         if goes(circuit.file, row, kept, i, pairs, most) {
             kept -= 1;

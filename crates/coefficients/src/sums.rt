@@ -4,12 +4,14 @@ ghost use Rattle.numbers.specs.Sums.{list};
 ghost use Rattle.running.specs.Masks.{most_masks};
 ghost use Rattle.coefficients.specs.Working.{entry, gathered, joined, in_blocks};
 
-// Blocks of one entry at first, then each two neighbours made one, until one block is left.
+// Blocks of one entry at first, then each two neighbours made one, until one block is left. `up` is a flag and no
+// closure: the definitions `gathered` and `joined` take it, and each of its two steps is one call.
 pub(crate) fn gather(v: &mut [u16], up: bool)
     requires { length v.old ≤ most_masks }
     ensures { (n : ℕ) → length v.old ≡ 2 ^ n → v.new ≡ gathered up n v.old }
 {
     let mut half: usize = 1;
+    // a size that doubles is no index: no iterator steps so
     while half < v.len() {
         join_blocks(v, half, up);
         half += half;

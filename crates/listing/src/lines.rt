@@ -13,7 +13,7 @@ use circuit::Gate;
 fn halvings(angle: u16) -> u16
     ensures { (result ≤ 15) × (over (angle / 2 ^ result) (32768 / 2 ^ result) ≡ fraction_of angle) }
 {
-    u16::trailing_zeros(angle | 32768) as u16
+    (angle | 32768).trailing_zeros() as u16
 }
 
 // The length of the three header lines.

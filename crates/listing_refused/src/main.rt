@@ -1,5 +1,5 @@
-// The listing program, on an input that is refused: reads the byte n and then the table from standard input, and prints the
-// wrapped listing of the folded circuit, or `refused N`.
+// The main of listing_program once more, since a program is tried on one input, and this one is refused. A function that
+// both call could promise nothing in its contract, and each main is one call, of `oracle_listing::printout`.
 #![tactic(auto)]
 
 use std::io;
