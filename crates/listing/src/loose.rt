@@ -20,7 +20,7 @@ fn pass_all(circuit: &Circuit, held: &mut [u16])
     }
 }
 
-// The lowest of the wires that does not hold its own mask alone, or `wires`.
+// The lowest of the wires that does not hold its own mask alone, or `wires`: `held` has ten, and the file says how many count.
 fn lowest_loose(held: &[u16], wires: usize) -> usize
     requires { (wires ≤ length held.now) × (wires ≤ most_wires) }
     ensures { result ≡ least (unlike (λ i. get_or held.now i 0) (λ i. 2 ^ suc i)) wires 0 }

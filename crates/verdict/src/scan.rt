@@ -37,7 +37,7 @@ fn lowest_place(first: &Summary, second: &Summary) -> usize
     if place < start { place } else { start }
 }
 
-// The first of `count` places where two rows differ, or `count`.
+// The first of `count` places where two rows differ, or `count`. Both are cut here, and not at each of the two calls.
 fn first_unlike(a: &[u16], b: &[u16], count: usize) -> usize
     requires { (count ≤ length a.now) × (count ≤ length b.now) }
     ensures { result ≡ least (unlike (entry a.now) (entry b.now)) count 0 }
