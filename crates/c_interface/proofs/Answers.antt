@@ -1,5 +1,5 @@
 -- What a caller in C knows: answer[0] is 0 exactly where the operation answered, and then its values stand behind it; else its refusal.
-use Prim.Native.Nat.{ℕ, suc}
+use Prim.Native.Nat.{ℕ, suc, ◌<◌}
 use native.Mathlib.Omega.{arith}
 use mathlib.Core.Path.{◌≡◌, refl, ap, ◌∙◌}
 use mathlib.Core.Logic.{◌⊎◌, inl, inr}
@@ -11,7 +11,7 @@ use Rattle.refusal.specs.Checks.{Check, passed, refused, outcome}
 use Rattle.refusal.specs.Contract.{Said, values, refuses, said_of, Says, Meets}
 use Rattle.refusal.proofs.Outcomes.{either}
 use Rattle.refusal.proofs.Contracts.{passed_values, refused_refusal, when_passed, when_refused}
-use Rattle.refusal.specs.Names.{reason_said}
+use Rattle.refusal.specs.Names.{number_of, reason_said}
 use Rattle.refusal.proofs.Numbering.{number_above}
 use Rattle.c_interface.specs.Numbers.{numbers_of, Tells, TellsAnswer}
 
@@ -19,6 +19,10 @@ use Rattle.c_interface.specs.Numbers.{numbers_of, Tells, TellsAnswer}
 pub six_numbers : (s : Said) → length (numbers_of s) ≡ 6
 six_numbers (values vs) = ap suc (length-take-le 5 (vs ++ replicate 5 0) (omega (arith, length-append vs (replicate 5 0))))
 six_numbers (refuses n s p x) = refl
+
+-- no row has the number 0, so that 0 can say that nothing is refused
+pub refused_numbered : (cs : List Check) (r : Refusal) → outcome cs ≡ refused r → 0 < number_of r.cause
+refused_numbered cs r e = number_above r.cause
 
 module _ {Answer : Type 0} (said : Answer → Said) (cs : List Check) (vs : List ℕ) (ns : List ℕ) (t : TellsAnswer (Says said (outcome cs) vs) said ns) where
   pub told_values : outcome cs ≡ passed → ns ≡ numbers_of (values vs)
@@ -37,7 +41,7 @@ module _ {Answer : Type 0} (said : Answer → Said) (cs : List Check) (vs : List
     where
       by : (outcome cs ≡ passed) ⊎ ((r : Refusal) × (outcome cs ≡ refused r)) → outcome cs ≡ passed
       by (inl p) = p
-      by (inr (r, e)) = absurd (omega (arith, number_above r.cause, ap (λ l. get_or l 0 0) (told_refusal r e)))
+      by (inr (r, e)) = absurd (omega (arith, refused_numbered cs r e, ap (λ l. get_or l 0 0) (told_refusal r e)))
 
 -- an operation that is lent a slice tells its answer as one that is lent none
 module _ {Answer Entry : Type 0} (said : Answer → Said) (cs : List Check) (vs : List ℕ) (result before : List Entry) (ns : List ℕ) (after : List Entry) (t : Tells (Meets said (outcome cs) vs result before) said ns after) where

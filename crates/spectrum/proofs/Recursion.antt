@@ -16,17 +16,18 @@ pub one_entry : (v : List ℤ) → length v / 2 ≤ 0 → (n : ℕ) → length v
 one_entry v h zero e = sym (transformed_one v e)
 one_entry v h (suc m) e = absurd (omega (arith, pow_pos m))
 
-module _ (v front back : List ℤ) (half : ℕ) (d : half ≡ length v / 2) (p : 0 < half) (f : front ≡ take half v) (g : back ≡ drop half v) where
+-- both halves of a row are shorter than it
+module _ {A : Type 0} (v front back : List A) (half : ℕ) (d : half ≡ length v / 2) (p : 0 < half) (f : front ≡ take half v) (g : back ≡ drop half v) where
   front_long : length front ≡ half
   front_long = ap length f ∙ length-take-le half v (omega arith)
 
-  -- both halves are shorter than the row
   pub first_falls : length front < length v
   first_falls = omega (arith, front_long)
 
   pub second_falls : length back < length v
   second_falls = omega (arith, ap length g ∙ length-drop half v)
 
+module _ (v front back : List ℤ) (half : ℕ) (d : half ≡ length v / 2) (p : 0 < half) (f : front ≡ take half v) (g : back ≡ drop half v) where
   -- both may be transformed
   pub first_call : Tame v → Tame front
   first_call t = by (half_bits t.bits (length v) half t.long d p)
@@ -43,7 +44,7 @@ module _ (v front back : List ℤ) (half : ℕ) (d : half ≡ length v / 2) (p :
   module _ (a b : List ℤ) (ea : (n : ℕ) → length front ≡ 2 ^ n → a ≡ transformed n front) (eb : (n : ℕ) → length back ≡ 2 ^ n → b ≡ transformed n back) where
     module _ (m : ℕ) (e : length v ≡ 2 ^ suc m) (h : half ≡ 2 ^ m) where
       first_part : a ≡ transformed m (take (2 ^ m) v)
-      first_part = ea m (front_long ∙ h) ∙ ap (transformed m) (f ∙ ap (λ (k : ℕ). take k v) h)
+      first_part = ea m (front_long v front back half d p f g ∙ h) ∙ ap (transformed m) (f ∙ ap (λ (k : ℕ). take k v) h)
 
       second_part : b ≡ transformed m (drop (2 ^ m) v)
       second_part = eb m (ap length g ∙ length-drop half v ∙ omega arith) ∙ ap (transformed m) (g ∙ ap (λ (k : ℕ). drop k v) h)
