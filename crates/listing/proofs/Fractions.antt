@@ -3,6 +3,7 @@ use Prim.Native.Nat.{ℕ, zero, suc, ◌+◌, ◌-◌, ◌*◌, ◌/◌, ◌%◌
 use native.Mathlib.Decide.{ℕ_discrete, dec_lt}
 use native.Mathlib.Omega.{arith}
 use native.Mathlib.Nat.{div-add-mod', mod-lt, eq_of_mul-eq-mul_left, max-zero, max-eq_right, div-div-eq-div-mul}
+use Rattle.std.proofs.Math.Nat.{eq-one_of_dvd-one, dvd-mul_right}
 use mathlib.Core.Path.{◌≡◌, refl, sym, ap, ap₂, ◌∙◌}
 use mathlib.Core.Logic.{◌⊎◌, inl, inr, ⊎_elim}
 use lib.Bits.{bit_or, or_step}
@@ -66,10 +67,7 @@ unfolding denominator least
 fraction_zero = refl
 
 divides_one : (g b : ℕ) → 1 ≡ g * b → g ≡ 1
-divides_one zero b e = absurd (omega arith)
-divides_one (suc zero) b e = refl
-divides_one (suc (suc g)) zero e = absurd (omega arith)
-divides_one (suc (suc g)) (suc b) e = absurd (omega arith)
+divides_one g b e = eq-one_of_dvd-one (rw e (dvd-mul_right g b))
 
 -- an odd number that divides a power of two is 1
 odd_divides_power : (e g b : ℕ) → g % 2 ≡ 1 → 2 ^ e ≡ g * b → g ≡ 1
