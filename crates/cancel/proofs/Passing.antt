@@ -2,13 +2,11 @@
 use Prim.Native.Nat.{ℕ, zero, suc, ◌+◌, ◌-◌, ◌*◌, ◌<◌, ◌≤◌}
 use native.Mathlib.Numerals.{add-one}
 use native.Mathlib.Omega.{arith}
-use mathlib.Core.Path.{◌≡◌, refl, sym, ap, ap₂, subst, ◌∙◌}
+use mathlib.Core.Path.{◌≡◌, refl, sym, ap, subst, ◌∙◌}
 use mathlib.Core.Bool.{Bool, true, false, ◌&&◌}
 use mathlib.Core.List.{List, [], ◌∷◌, ◌++◌, append-nil, append_assoc}
-use lib.Dec.{ltb}
 use lib.ListN.{length, get_or, drop, set}
 use lib.Seq.{get_or-set_same, get_or-set_other}
-use borrow.Author.Tests.{lt-ltb, le-ltb}
 use Rattle.numbers.proofs.Lists.{length-list, list_last}
 use Rattle.circuit.specs.declared.Gate.{Gate}
 use Rattle.circuit.specs.Bytes.{Bytes}
@@ -36,26 +34,6 @@ module _ (f row : List ℕ) where
       let g : ℕ → Gate = λ j. said_at f (get_or row j 0) in
       onto_stack n (g n ∷ gs) ∙ sym (append_assoc (gates_at f row n) (g n ∷ []) gs) ∙ ap (◌++ gs) (sym (list_last n g))
 
--- whether a gate goes: not where no removal is left, not where no gate is kept, else where it is the last one's twin
-module _ (f row : List ℕ) (kept i pairs most : ℕ) where
-  pub none_allowed : most ≤ pairs → false ≡ (ltb pairs most && meets (stack f row kept) (said_at f i))
-  none_allowed h = rw (le-ltb pairs most h)
-
-  pub none_kept : kept ≡ 0 → false ≡ (ltb pairs most && meets (stack f row kept) (said_at f i))
-  none_kept e = rw e (by (ltb pairs most))
-    where
-      by : (b : Bool) → false ≡ (b && false)
-      by true = refl
-      by false = refl
-
-  pub twin_met : pairs < most → 1 ≤ kept → (last next : Gate) (r : Bool) → last ≡ said_at f (get_or row (kept - 1) 0) → next ≡ said_at f i → r ≡ twins last next
-      → r ≡ (ltb pairs most && meets (stack f row kept) (said_at f i))
-  twin_met l h last next r p q e = rw (lt-ltb pairs most l) (e ∙ ap₂ twins p q ∙ top kept h)
-    where
-      top : (n : ℕ) → 1 ≤ n → twins (said_at f (get_or row (n - 1) 0)) (said_at f i) ≡ meets (stack f row n) (said_at f i)
-      top zero k = absurd (omega arith)
-      top (suc n) k = ap (λ (x : ℕ). twins (said_at f (get_or row x 0)) (said_at f i)) (omega arith)
-
 -- at position i: how many gates are kept, how many pairs have gone
 pub record Passing (f : List ℕ) (most : ℕ) (row : List ℕ) (kept pairs i : ℕ) : Type 0 where
   pub within : i ≤ count_of f
@@ -67,9 +45,6 @@ pub record Passing (f : List ℕ) (most : ℕ) (row : List ℕ) (kept pairs i : 
 -- the same numbers, said otherwise
 pub passing_same : {f : List ℕ} {most : ℕ} {row row' : List ℕ} {kept kept' pairs pairs' i : ℕ} → row' ≡ row → kept' ≡ kept → pairs' ≡ pairs → Passing f most row kept pairs i → Passing f most row' kept' pairs' i
 passing_same p q r x = rw (p, q, r) x
-
-pub pass_starts : (f : List ℕ) (most : ℕ) (row : List ℕ) → Passing f most row 0 0 0
-pass_starts f most row = record { within = omega arith; count = refl; allowed = omega arith; apart = λ h. tt; comes = ap (λ (n : ℕ). cancelled n (gates_of f)) (omega arith) }
 
 module _ (f : List ℕ) (bytes : Bytes f) (good : GoodFile f) (most : ℕ) (row : List ℕ) (kept pairs i : ℕ) (r : Passing f most row kept pairs i) where
   module _ (h : i < count_of f) where

@@ -1,5 +1,5 @@
 -- The ends of the listed starts, from what the wires hold.
-use Rattle.std.proofs.Common.{◌≡◌, ℕ, zero, suc, ◌+◌, ◌*◌, ◌/◌, ◌%◌, ◌^◌, ◌<◌, ◌≤◌, List, length, take, sym, refl, ap, ◌∙◌, ap₂, mod-eq_of_lt, add-one, arith, length-take-le, get_or-take, pow_pos, pow_mono}
+use Rattle.std.proofs.Common.{◌≡◌, ℕ, zero, suc, ◌+◌, ◌*◌, ◌/◌, ◌%◌, ◌^◌, ◌<◌, ◌≤◌, List, length, take, sym, ap, ◌∙◌, ap₂, mod-eq_of_lt, add-one, arith, length-take-le, get_or-take, pow_pos, pow_mono}
 use lib.Bits.{bit_xor, xor_lt, xor_self, xor_zero_r}
 use lib.Pow.{pow-lt}
 use Rattle.numbers.specs.Bits.{bit, dot}
@@ -34,16 +34,8 @@ module _ (held : List ℕ) (i j state : ℕ) (e : state ≡ column_to held j i) 
   bit_placed : bit (entry held j) i * 2 ^ j % 65536 ≡ bit (entry held j) i * 2 ^ j
   bit_placed = mod-eq_of_lt (omega (arith, column_small))
 
-  pub column_next : state + bit (entry held j) i * 2 ^ j % 65536 ≡ column_to held (j + 1) i
-  column_next = ap₂ ◌+◌ e bit_placed ∙ ap (λ (n : ℕ). column_to held n i) (sym (add-one j))
-
   pub column_fits : state + bit (entry held j) i * 2 ^ j % 65536 < 2 ^ 16
   column_fits = omega (arith, e, bit_placed, column_small)
-
--- a wire's own start: its column, with the flips
-pub turned_column : (held : List ℕ) (i c f : ℕ) → (i ≡ 0 → ⊥) → c ≡ column held i → f ≡ column held 0 → bit_xor c f ≡ listed_column held i
-turned_column held zero c f h p q = absurd (h refl)
-turned_column held (suc i) c f h p q = ap₂ bit_xor p q
 
 -- a circuit on w wires, what they hold kept for as many as there can be
 module _ (w : ℕ) (gs : List Gate) (few : w ≤ most_wires) (sound : AllSound w gs) (held : List ℕ) (e : held ≡ numbers_from gs (own_numbers most_wires)) where

@@ -6,7 +6,7 @@ use Rattle.numbers.specs.Bits.{equal}
 use Rattle.numbers.specs.Turn.{difference}
 use Rattle.numbers.specs.Working.{◌≈◌}
 use Rattle.numbers.proofs.Parity.{equal_yes, equal_no}
-use Rattle.numbers.proofs.Turns.{≈-of, ≈-mod, ≈_sym, ≈-add, ≈_refl, ≈-cancel, ≈-turns, difference_adds, difference_below, subtracted, ◌≈∙◌}
+use Rattle.numbers.proofs.Turns.{≈-of, ≈-mod, ≈_sym, ≈-add, ≈_refl, ≈-cancel, ≈-turns, difference_adds, difference_below, ◌≈∙◌}
 use Rattle.circuit.specs.declared.Gate.{Gate}
 use Rattle.circuit.specs.declared.Gate.TheVariants.{Cnot, Phase, Inverter}
 use Rattle.circuit.specs.Working.{AllSound, walked}
@@ -109,22 +109,6 @@ walk_signs w gs ms held row constant s b e =
       has = λ m. ≈-of (ap (λ (v : List ℕ). entry v m) second) ≈∙ r.1 m ≈∙ ≈-of (ap (◌+ sum_numbers (signed_at m) gs ms) (zeros most_masks m) ∙ zero-add (sum_numbers (signed_at m) gs ms));
       adds = ap (λ (t : List ℕ × List ℕ × ℕ). t.2) e ∙ constant_walked gs ms none 0 (omega arith) ∙ ap (◌% 65536) (zero-add (sum_numbers turned_of gs ms));
     }
-
--- one angle, by the test of its flip
-pub adds_angle : (f x a r : ℕ) → f ≡ 0 → r ≡ (x + a) % 65536 → r ≡ signed_by f x a
-adds_angle f x a r e p = rw e p
-
-pub takes_angle : (f x a r : ℕ) → (f ≡ 0 → ⊥) → r < 65536 → a < 65536 → (r + a) % 65536 ≡ x → r ≡ signed_by f x a
-takes_angle zero x a r h l k p = absurd (h refl)
-takes_angle (suc f) x a r h l k p = subtracted x a r l k p
-
-pub turn_fits : (n a : ℕ) → a < 65536 → turned_of n a < 65536
-turn_fits n a h = by (n % 2) (omega arith)
-  where
-    by : (f : ℕ) → f < 2 → a * f < 65536
-    by zero l = omega arith
-    by (suc zero) l = omega arith
-    by (suc (suc f)) l = absurd (omega arith)
 
 -- one gate
 abbrev pub Adds : Gate → List ℕ → List ℕ → List ℕ → List ℕ → ℕ → Type 0

@@ -23,7 +23,7 @@ use Rattle.running.proofs.Meetings.{sum_numbers-≈, sum_numbers-swap}
 use Rattle.coefficients.specs.Coefficients.{sign, coefficient, coefficients, listed_ends}
 use Rattle.coefficients.specs.Working.{entry, gathered, weight_of, weighed, turned_of, sign_step, listed_column}
 use Rattle.coefficients.proofs.Polynomials.{sum_at, coefficient_constant, coefficient_weight, coefficient_below}
-use Rattle.coefficients.proofs.Gathering.{sum_around, length-gathered, entry_gathered}
+use Rattle.coefficients.proofs.Gathering.{sum_around, entry_gathered}
 use Rattle.coefficients.proofs.Signing.{signed_at, Signed, walk_signs}
 use Rattle.coefficients.proofs.Ends.{held_long, are_ends}
 
@@ -56,12 +56,6 @@ module _ (w : ℕ) (gs : List Gate) (v : List ℕ) (constant : ℕ) (has : (m : 
 
   pub are_coefficients : list (2 ^ w) (weighed constant (gathered true w v)) ≡ coefficients w gs
   are_coefficients = list_ext (2 ^ w) (weighed constant (gathered true w v)) (coefficient w gs) weighed_at_lem
-
--- gathered and weighed, as the code does one after the other
-pub put_weighed : (n : ℕ) (v u row after : List ℕ) (constant : ℕ) → u ≡ gathered true n v → after ≡ put_at (list (length u) (weighed constant u)) 0 row → after ≡ put_at (list (2 ^ n) (weighed constant (gathered true n v))) 0 row
-put_weighed n v u row after constant e r =
-    r ∙ ap (λ (x : List ℕ). put_at (list (length x) (weighed constant x)) 0 row) e
-    ∙ ap (λ (m : ℕ). put_at (list m (weighed constant (gathered true n v))) 0 row) (length-gathered true n v)
 
 -- what is known where the gates of a good file are walked
 pub record Walked (side : ℕ) (f : List ℕ) (w g : ℕ) (held row : List ℕ) (constant : ℕ) : Type 0 where

@@ -57,9 +57,6 @@ module _ (n half : ℕ) (h : half ≡ 2 ^ n) (f : ℕ → ℕ) (row upper : List
   apart : whole ≡ (take half row ++ upper) ++ post_of half (half + half - half) row
   apart = sym (append_assoc (take half row) upper (post_of half (half + half - half) row))
 
-  pub ideal_fits : half + half ≤ length whole
-  ideal_fits = omega (arith, ap length apart, length-append (take half row ++ upper) (post_of half (half + half - half) row), both_long)
-
   pub ideal_row : take (half + half) whole ≡ ideal_coefficients n f
   ideal_row =
       ap (take (half + half)) apart ∙ take_at (take half row ++ upper) (post_of half (half + half - half) row) (half + half) both_long ∙ ap₂ ◌++◌ lower e

@@ -7,11 +7,6 @@ use Rattle.numbers.specs.Bits.{indicator}
 use Rattle.numbers.proofs.Parity.{indicator_at_most_one}
 use Rattle.circuit.specs.declared.Gate.{Gate}
 use Rattle.circuit.specs.declared.Gate.TheVariants.{Cnot, Phase, Inverter}
-use Rattle.refusal.specs.Checks.{passed, outcome}
-use Rattle.circuit.specs.Bytes.{Bytes}
-use Rattle.circuit.specs.File.{count_of, gates_of, file_checks}
-use Rattle.circuit.proofs.Callers.{good_file}
-use Rattle.circuit.proofs.Files.{length-gates}
 use Rattle.running.specs.Run.{free_turn, scores, score_by, cnots, phases, score, inverters}
 
 pub cnots_cons : (g : Gate) (gs : List Gate) → cnots (g ∷ gs) ≡ cnots (g ∷ []) + cnots gs
@@ -67,7 +62,3 @@ gates_counted [] = refl
 gates_counted (Cnot c t ∷ gs) = let r = gates_counted gs in omega arith
 gates_counted (Phase i a ∷ gs) = let r = gates_counted gs in omega arith
 gates_counted (Inverter i ∷ gs) = let r = gates_counted gs in omega arith
-
--- the counts together are a good file's gate count
-pub counts_all : (f : List ℕ) (c p x : ℕ) → Bytes f → outcome (file_checks 0 f) ≡ passed → c ≡ cnots (gates_of f) → p ≡ phases (gates_of f) → x ≡ inverters (gates_of f) → c + p + x ≡ count_of f
-counts_all f c p x bytes e d q r = omega (arith, gates_counted (gates_of f), length-gates f bytes (good_file 0 f e))

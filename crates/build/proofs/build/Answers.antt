@@ -1,16 +1,15 @@
-use Rattle.std.proofs.Common.{◌≡◌, ℕ, ◌+◌, ◌%◌, ◌^◌, ◌<◌, ◌≤◌, List, ◌++◌, length, drop, ℤ, sym, subst, ◌∙◌, arith, pow_mono, rules}
+use Rattle.std.proofs.Common.{◌≡◌, ℕ, ◌+◌, ◌%◌, ◌^◌, ◌<◌, ◌≤◌, List, ◌++◌, length, drop, ℤ, sym, subst, ◌∙◌, arith, pow_mono}
 use Rattle.refusal.specs.Checks.{passed, outcome}
 use Rattle.numbers.proofs.Powers.{power_fits}
 use Rattle.table.specs.Table.{table_checks}
 use Rattle.table.proofs.Callers.{good_variables}
-use Rattle.std.specs.Prelude.{Result, Ok}
-use Rattle.refusal.specs.declared.Refusal.{Refusal}
 use Rattle.refusal.proofs.Contracts.{handed_on}
 use Rattle.build.specs.Construction.{Builds}
-use Rattle.spectrum.specs.Spectrum.{spectrum_of, Transforms}
+use Rattle.spectrum.specs.Spectrum.{spectrum_of}
 use Rattle.spectrum.proofs.Callers.{spectrum_room, spectrum_answers, spectrum_refuses}
 use Rattle.build.proofs.Answers.{zeros, table_fails, room_fails, answered, row_size, leaves_file}
 use Rattle.build.proofs.build.Goals as goal
+use Rattle.build.proofs.build.Goals.{In_ok-spectrum}
 
 -- the table is good, and its spectrum stands in the local row
 record Told (n : ℕ) (t : List ℕ) (row : List ℤ) : Type 0 where
@@ -19,9 +18,11 @@ record Told (n : ℕ) (t : List ℕ) (row : List ℤ) : Type 0 where
   small : n ≤ 8
   entries : row ≡ spectrum_of n t ++ drop (length (spectrum_of n t)) zeros
 
-told : (n : ℕ) (t : List ℕ) (row : List ℤ) (a : Result ℕ Refusal) → Transforms n t zeros a row → (k : ℕ) → a ≡ Ok k → Told n t row
-told n t row a meets k e =
-    let v = spectrum_answers n t zeros a row meets k e in
+told : (c : In_ok-spectrum) → Told c.args.n c.args.table.now c.spectrum.new.out
+told c =
+    let n = c.args.n in
+    let t = c.args.table.now in
+    let v = spectrum_answers n t zeros c.spectrum.result c.spectrum.new.out c.spectrum.ensures c.in_ok-spectrum.field-0 c.in_ok-spectrum.was in
     let good : outcome (table_checks n t) ≡ passed = sym (spectrum_room n t 256 (omega arith)) ∙ v.0 in
     let variables = good_variables n t good in
     record { good = good; some = variables.0; small = variables.1; entries = v.2 }
@@ -42,25 +43,25 @@ returns-in_err-spectrum c =
 
 pub overflow_add-n : goal.overflow_add-n
 overflow_add-n c =
-    let a = c.args in
-    omega (arith, (told a.n a.table.now c.spectrum.new.out c.spectrum.result c.spectrum.ensures c.in_ok-spectrum.field-0 c.in_ok-spectrum.was).small)
+    omega (arith, (told (goal.at.overflow_add-n c).In_ok-spectrum).small)
 
 pub returns-then-out-file : goal.returns-then-out-file
 returns-then-out-file c =
     let a = c.args in
-    let t = told a.n a.table.now c.spectrum.new.out c.spectrum.result c.spectrum.ensures c.in_ok-spectrum.field-0 c.in_ok-spectrum.was in
+    let t = told (goal.at.returns-then-out-file c).In_ok-spectrum in
     room_fails a.n a.table.now a.out.now t.good (omega (arith, length_is t c.power-file.result c.power-file.ensures)) c.into.result c.into.ensures
 
-pub write_angles-requires : goal.write_angles-requires
-write_angles-requires c =
-    let a = c.args in
-    let t = told a.n a.table.now c.spectrum.new.out c.spectrum.result c.spectrum.ensures c.in_ok-spectrum.field-0 c.in_ok-spectrum.was in
-    record { n_bound = t.small; same_length = search rules; small = row_size a.n a.table.now t.small c.spectrum.new.out t.entries }
+pub write_angles-requires-clause-n_bound : goal.write_angles-requires-clause-n_bound
+write_angles-requires-clause-n_bound c = (told (goal.at.write_angles-requires-clause-n_bound c).In_ok-spectrum).small
+
+pub write_angles-requires-clause-small : goal.write_angles-requires-clause-small
+write_angles-requires-clause-small c =
+    let t = told (goal.at.write_angles-requires-clause-small c).In_ok-spectrum in
+    row_size c.args.n c.args.table.now t.small c.spectrum.new.out t.entries
 
 pub write_file-requires : goal.write_file-requires
 write_file-requires c =
-    let a = c.args in
-    let t = told a.n a.table.now c.spectrum.new.out c.spectrum.result c.spectrum.ensures c.in_ok-spectrum.field-0 c.in_ok-spectrum.was in
+    let t = told (goal.at.write_file-requires c).In_ok-spectrum in
     record {
       n_nonzero = t.some;
       n_bound = t.small;
@@ -72,7 +73,7 @@ write_file-requires c =
 pub returns : goal.returns
 returns c =
     let a = c.args in
-    let t = told a.n a.table.now c.spectrum.new.out c.spectrum.result c.spectrum.ensures c.in_ok-spectrum.field-0 c.in_ok-spectrum.was in
+    let t = told (goal.at.returns c).In_ok-spectrum in
     let long = length_is t c.power-file.result c.power-file.ensures in
     let roomy : 2 ^ (a.n + 4) ≤ length a.out.now = omega (arith, long, c.if-out-file.false) in
     let after = c.write_file.new.out in

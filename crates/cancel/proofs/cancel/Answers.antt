@@ -4,7 +4,7 @@ use lib.Seq.{length-take-le}
 use Rattle.refusal.proofs.Contracts.{handed_on}
 use Rattle.circuit.specs.Bytes.{put_at}
 use Rattle.circuit.specs.Gates.{bytes_of}
-use Rattle.circuit.proofs.Callers.{good_file, good_circuit, circuit_passes}
+use Rattle.circuit.proofs.Callers.{good_file, circuit_passes}
 use Rattle.cancel.specs.Cancel.{cancelled_file, Cancels}
 use Rattle.cancel.specs.Working.{most_gates, Remains}
 use Rattle.cancel.proofs.Answers.{Room, room, file_fails, allow_fails, room_fails, answered, file_written}
@@ -36,9 +36,6 @@ returns-then-most-gt-MOST_ALLOWED c =
     let i = c.in_ok-circuit in
     allow_fails c.args.file.now c.args.most c.args.out.now (circuit_passes i.ensures i.circuit.good) (omega arith) c.into.result c.into.ensures
 
-pub pass-kept-requires : goal.pass-kept-requires
-pass-kept-requires c = omega (arith, (good_circuit c.in_ok-circuit.circuit.good).count, length-replicate {A = ℕ} most_gates 0)
-
 pub overflow_mul-length : goal.overflow_mul-length
 overflow_mul-length c = omega (arith, (room_of (goal.at.overflow_mul-length c).After-pass-kept).few)
 
@@ -59,16 +56,6 @@ slice_bounds-row-end c = enough (goal.at.slice_bounds-row-end c).After-pass-kept
 
 pub slice_bounds-write_gates-end : goal.slice_bounds-write_gates-end
 slice_bounds-write_gates-end c = sym (length-take-le _ _ (enough (goal.at.slice_bounds-write_gates-end c).After-pass-kept))
-
-pub write_gates-requires-clause-few : goal.write_gates-requires-clause-few
-write_gates-requires-clause-few c =
-    let p = (goal.at.write_gates-requires-clause-few c).After-pass-kept in
-    omega (arith, length-take-le c.pass-kept.result.gates c.pass-kept.new.row (enough p), (room_of p).few)
-
-pub write_gates-requires-clause-fits : goal.write_gates-requires-clause-fits
-write_gates-requires-clause-fits c =
-    let p = (goal.at.write_gates-requires-clause-fits c).After-pass-kept in
-    rw c.put_header_of.auto.out (omega (arith, length-take-le c.pass-kept.result.gates c.pass-kept.new.row (enough p)))
 
 pub returns : goal.returns
 returns c =

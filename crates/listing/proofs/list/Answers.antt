@@ -69,7 +69,7 @@ module _ (c : After-wires-wires) where
 pub returns-then-is_loose : goal.returns-then-is_loose
 returns-then-is_loose c =
     let a = c.args in
-    earlier_fails (rows a.wrapped a.file.now) (text a.wrapped a.file.now) a.out.now c.into.result
+    earlier_fails _ _ a.out.now c.into.result
     (comes_to (goal.at.returns-then-is_loose c).After-is_loose true c.if-is_loose.true ∙ ap refused (sym c.into.ensures))
 
 pub returns-then-not-fits : goal.returns-then-not-fits
@@ -77,7 +77,7 @@ returns-then-not-fits c =
     let f = c.args.file.now in
     let b = c.args.wrapped in
     let out = c.args.out.now in
-    room_fails (rows b f) (text b f) out (comes_to (goal.at.returns-then-not-fits c).After-is_loose false c.if-is_loose.false)
+    room_fails _ _ out (comes_to (goal.at.returns-then-not-fits c).After-is_loose false c.if-is_loose.false)
     (leb-false (length (text b f)) (length out) (sym (c.fits.ensures ∙ ap (λ h. leb (length (text b h)) (length out)) c.in_ok-circuit.ensures) ∙ c.if-not-fits.true)) c.into-then-not-fits.result c.into-then-not-fits.ensures
 
 pub put_head-requires : goal.put_head-requires
@@ -102,12 +102,11 @@ returns-in_err-circuit c =
     let b = c.args.wrapped in
     let out = c.args.out.now in
     subst (λ r. Lists b f out r out) (sym (handed_on c.from_residual.ensures.1))
-    (earlier_fails (rows b f) (text b f) out _ (then_refused (file_checks 0 f) (loose_check b (wires_of f) (gates_of f)) _ c.in_err-circuit.ensures))
+    (earlier_fails _ _ out _ (then_refused (file_checks 0 f) _ _ c.in_err-circuit.ensures))
 
 pub returns : goal.returns
 returns c =
-    let a = c.args in
     let p = (goal.at.returns c).After-wires-wires in
-    subst (λ (o : List ℕ). Lists a.wrapped a.file.now a.out.now (Ok c.put_wrap-2.new.writer.at) o) (search rules)
-    (answered (rows a.wrapped a.file.now) (text a.wrapped a.file.now) a.out.now (comes_to (goal.at.returns c).After-is_loose false c.if-is_loose.false) (enough p) c.put_wrap-2.new.writer.at c.put_wrap-2.new.writer.out.now
+    subst (λ (o : List ℕ). Lists c.args.wrapped c.args.file.now c.args.out.now (Ok c.put_wrap-2.new.writer.at) o) (search rules)
+    (answered _ _ c.args.out.now (comes_to (goal.at.returns c).After-is_loose false c.if-is_loose.false) (enough p) c.put_wrap-2.new.writer.at c.put_wrap-2.new.writer.out.now
     (all_written (behind_gates p c.put_head.ensures.wrote c.put_wrap.ensures.wrote c.put_gates.ensures.wrote) c.put_wrap-2.ensures.wrote))

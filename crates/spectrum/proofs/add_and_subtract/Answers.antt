@@ -1,12 +1,8 @@
 use Rattle.std.proofs.Common.{pos, ◌+ℤ◌, ◌-ℤ◌, ap₂, ◌∙◌, arith}
 use Rattle.numbers.proofs.Lists.{fill_again}
 use Rattle.numbers.proofs.Rows.{filled_at}
-use Rattle.spectrum.proofs.Adding.{sum_of, difference_of, pair_fits, adding_ends}
+use Rattle.spectrum.proofs.Adding.{sum_of, difference_of, adding_ends}
 use Rattle.spectrum.proofs.add_and_subtract.Goals as goal
-
-pub add_and_subtract_two-requires : goal.add_and_subtract_two-requires
-add_and_subtract_two-requires c = let l = c.loop-i in
-    pair_fits c.args.front.now c.args.back.now l.front l.back l.i l.invariant.front l.invariant.back c.requires.paired c.loop-i-test.true
 
 pub loop-i-preserved : goal.loop-i-preserved
 loop-i-preserved c = let l = c.loop-i in

@@ -1,16 +1,10 @@
-use Rattle.std.proofs.Common.{length, refl, ap, ◌∙◌}
+use Rattle.std.proofs.Common.{length, ap, ◌∙◌}
 use Rattle.circuit.specs.File.{gates_of}
-use Rattle.circuit.specs.Working.{said_gates}
-use Rattle.circuit.proofs.Walks.{walk_starts, walk_goes_on, walk_ends}
+use Rattle.circuit.proofs.Walks.{walk_goes_on, walk_ends}
 use Rattle.running.specs.Working.{met, sum_step}
 use Rattle.running.proofs.Masks.{length-after}
 use Rattle.fold.proofs.Summing.{length-added, sum_stepped}
 use Rattle.fold.proofs.totals.add_gates.Goals as goal
-
-pub loop-gate-init : goal.loop-gate-init
-loop-gate-init c =
-    let a = c.args in
-    (walk_starts sum_step (gates_of a.circuit.now.file.now) (a.held.now, a.totals.now) (ap (λ s. said_gates s.left.now) c.into_iter-gate-iterator.ensures.into_iter_gives ∙ c.gates-gate-items.ensures), refl, refl)
 
 pub loop-gate-preserved : goal.loop-gate-preserved
 loop-gate-preserved c =
