@@ -6,19 +6,14 @@ use Rattle.numbers.proofs.Rows.{end_part}
 use Rattle.circuit.specs.declared.Gate.{Gate}
 use Rattle.circuit.specs.declared.Gate.TheVariants.{Cnot, Phase}
 use Rattle.circuit.specs.Working.{Wrote}
-use Rattle.circuit.specs.Bytes.{put_at}
-use Rattle.circuit.specs.Gates.{gate_bytes, bytes_of}
-use Rattle.circuit.proofs.Decoding.{bytes_one, bytes_append, length-bytes}
+use Rattle.circuit.specs.Gates.{bytes_of}
+use Rattle.circuit.proofs.Decoding.{bytes_append, length-bytes}
 use Rattle.circuit.proofs.Parts.{Left, all_left, room, less_left, none_left}
 use Rattle.build.specs.Gray.{turned, word}
 use Rattle.build.specs.Construction.{in_turn, block, variables}
 use Rattle.build.proofs.Gray.{turned_below, word_below}
 use Rattle.build.proofs.Blocks.{pair_at}
 use Rattle.build.proofs.Circuits.{block_same}
-
-pub wrote_gate : (g : Gate) (at : ℕ) (before after : List ℕ) → after ≡ put_at (gate_bytes g) at before → Wrote (bytes_of (g ∷ [])) at before (at + 4) after
-wrote_gate g at before after e =
-    record { ends = ap (at +◌) (sym (length-bytes (g ∷ []))); written = e ∙ ap (λ (b : List ℕ). put_at b at before) (sym (bytes_one g)) }
 
 -- ---- lists in turn
 

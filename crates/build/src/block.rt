@@ -1,4 +1,4 @@
-// The three parts of the construction, over one block writer. Each writes at `at` and answers where it stopped.
+// The three parts of the construction, over one block writer.
 ghost use Rattle.std.specs.Prelude.{◌≡◌, ◌+◌, ◌^◌, ◌<◌, ◌≤◌, [], ◌∷◌, length, slice_index};
 ghost use Rattle.circuit.specs.Working.{Wrote};
 ghost use Rattle.circuit.specs.Gates.{bytes_of};
@@ -6,77 +6,62 @@ ghost use Rattle.circuit.specs.declared.Gate.TheVariants.{Cnot, Phase};
 ghost use Rattle.build.specs.Gray.{turned as Gray·turned};
 ghost use Rattle.build.specs.Construction.{block as gatesOfBlock, variables as gatesOfVariables, first_quarter};
 
-use circuit::Gate;
+use circuit::{Gate, Writer};
 
-pub(crate) fn first_quarter(n: u8, out: &mut [u8], at: usize) -> usize
-    requires { at + length (bytes_of (first_quarter n)) ≤ length out.old }
-    ensures { Wrote (bytes_of (first_quarter n)) at out.old result out.new }
+pub(crate) fn first_quarter(n: u8, writer: &mut Writer)
+    requires { writer.old.at + length (bytes_of (first_quarter n)) ≤ length writer.old.out.now }
+    ensures wrote { Wrote (bytes_of (first_quarter n)) writer.old.at writer.old.out.now writer.new.at writer.new.out.now }
+    ensures same_reference { writer.new.out.ghost_name ≡ writer.old.out.ghost_name }
 {
-    put(
-        Gate::Phase {
-            wire: n,
-            angle: 16384,
-        },
-        out,
-        at,
-    )
+    writer.put_gate(Gate::Phase {
+        wire: n,
+        angle: 16384,
+    });
 }
 
 // The blocks of wires 0 to n - 1, each with the angles from 2^i on. Wire 0 has one word, and no CNOT.
-pub(crate) fn variables(n: u8, angles: &[u16], out: &mut [u8], at: usize) -> usize
+pub(crate) fn variables(n: u8, angles: &[u16], writer: &mut Writer)
     requires n_nonzero { 0 < n }
     requires n_bound { n ≤ 8 }
     requires angles_enough { 2 ^ n ≤ length angles.now }
-    requires room { at + length (bytes_of (gatesOfVariables n (λ k. slice_index angles.now k))) ≤ length out.old }
-    ensures { Wrote (bytes_of (gatesOfVariables n (λ k. slice_index angles.now k))) at out.old result out.new }
+    requires room { writer.old.at + length (bytes_of (gatesOfVariables n (λ k. slice_index angles.now k))) ≤ length writer.old.out.now }
+    ensures wrote { Wrote (bytes_of (gatesOfVariables n (λ k. slice_index angles.now k))) writer.old.at writer.old.out.now writer.new.at writer.new.out.now }
+    ensures same_reference { writer.new.out.ghost_name ≡ writer.old.out.ghost_name }
 {
-    let mut next = put(
-        Gate::Phase {
-            wire: 0,
-            angle: angles[1],
-        },
-        out,
-        at,
-    );
+    writer.put_gate(Gate::Phase {
+        wire: 0,
+        angle: angles[1],
+    });
     for i in 1..n {
-        next = block(i, &angles[numbers::power(i)..], out, next);
+        block(i, &angles[numbers::power(i)..], writer);
     }
-    next
 }
 
 // Wire i's block: for each Gray word a phase by the word's angle, then a CNOT from the bit that turns.
-pub(crate) fn block(i: u8, angles: &[u16], out: &mut [u8], at: usize) -> usize
+pub(crate) fn block(i: u8, angles: &[u16], writer: &mut Writer)
     requires i_nonzero { 0 < i }
     requires i_bound { i ≤ 8 }
     requires angles_enough { 2 ^ i ≤ length angles.now }
-    requires room { at + length (bytes_of (gatesOfBlock i (λ v. slice_index angles.now v))) ≤ length out.old }
-    ensures { Wrote (bytes_of (gatesOfBlock i (λ v. slice_index angles.now v))) at out.old result out.new }
+    requires room { writer.old.at + length (bytes_of (gatesOfBlock i (λ v. slice_index angles.now v))) ≤ length writer.old.out.now }
+    ensures wrote { Wrote (bytes_of (gatesOfBlock i (λ v. slice_index angles.now v))) writer.old.at writer.old.out.now writer.new.at writer.new.out.now }
+    ensures same_reference { writer.new.out.ghost_name ≡ writer.old.out.ghost_name }
 {
-    let mut next = at;
     let mut word = 0;
     for k in 0..numbers::power(i) {
         let bit = turned(i, k);
-        next = put_pair(i, angles[word], bit, out, next);
+        put_pair(i, angles[word], bit, writer);
         word ^= numbers::power(bit);
     }
-    next
 }
 
 // A phase on wire i, then a CNOT to it.
-fn put_pair(i: u8, angle: u16, control: u8, out: &mut [u8], at: usize) -> usize
-    requires { at + length (bytes_of (Phase i angle ∷ Cnot control i ∷ [])) ≤ length out.old }
-    ensures { Wrote (bytes_of (Phase i angle ∷ Cnot control i ∷ [])) at out.old result out.new }
+fn put_pair(i: u8, angle: u16, control: u8, writer: &mut Writer)
+    requires { writer.old.at + length (bytes_of (Phase i angle ∷ Cnot control i ∷ [])) ≤ length writer.old.out.now }
+    ensures wrote { Wrote (bytes_of (Phase i angle ∷ Cnot control i ∷ [])) writer.old.at writer.old.out.now writer.new.at writer.new.out.now }
+    ensures same_reference { writer.new.out.ghost_name ≡ writer.old.out.ghost_name }
 {
-    let next = put(Gate::Phase { wire: i, angle }, out, at);
-    put(Gate::Cnot { control, target: i }, out, next)
-}
-
-fn put(gate: Gate, out: &mut [u8], at: usize) -> usize
-    requires { at + 4 ≤ length out.old }
-    ensures { Wrote (bytes_of (gate ∷ [])) at out.old result out.new }
-{
-    circuit::put_gate(gate, out, at);
-    at + 4
+    writer.put_gate(Gate::Phase { wire: i, angle });
+    writer.put_gate(Gate::Cnot { control, target: i });
 }
 
 // d_k: the trailing zeros of k + 1, except that the last is i - 1.

@@ -1,6 +1,7 @@
 // Document 01, "The built circuit": Construction 1 of document 000 as a circuit file.
 #![tactic(auto)]
 
+use circuit::Writer;
 use refusal::{Cause, Refusal};
 
 mod angles;
@@ -41,7 +42,8 @@ fn write_file(n: u8, theta: &[u16], minus: &[u16], out: &mut [u8])
 {
     let gates = numbers::power(n + 2) - 2;
     circuit::put_header(1, n + 1, gates as u16, out);
-    let at = block::first_quarter(n, out, 8);
-    let at = block::variables(n, theta, out, at);
-    block::block(n, minus, out, at);
+    let mut writer = Writer { out, at: 8 };
+    block::first_quarter(n, &mut writer);
+    block::variables(n, theta, &mut writer);
+    block::block(n, minus, &mut writer);
 }

@@ -4,12 +4,14 @@
 mod decoder;
 mod file;
 mod gates;
+mod place;
 mod reader;
 mod writer;
 
 pub use decoder::decode;
 pub use file::Circuit;
 pub use gates::{Gates, gate_at, good_gate};
+pub use place::Writer;
 pub use reader::{read, read_side};
 pub use writer::{put_gate, put_header, put_header_of};
 

@@ -18,7 +18,7 @@ fn put(bytes: &[u8], out: &mut [u8], at: usize)
 }
 
 // A gate's four bytes.
-fn gate_bytes(gate: Gate) -> [u8; 4]
+pub(crate) fn gate_bytes(gate: Gate) -> [u8; 4]
     ensures { result ≡ gate_bytes gate }
 {
     match gate {

@@ -1,15 +1,15 @@
 -- The pass that writes: what it leaves of each gate, one after another, are the folded gates.
-use Rattle.std.proofs.Common.{◌≡◌, ℕ, ◌+◌, ◌<◌, ◌≤◌, List, [], ◌∷◌, ◌++◌, length, get_or, set, sym, refl, ap, ◌∙◌, ap₂, arith, get_or-set_other, get_or-set_same}
+use Rattle.std.proofs.Common.{◌≡◌, ℕ, ◌<◌, ◌≤◌, List, [], ◌∷◌, ◌++◌, length, get_or, set, sym, refl, ap, ◌∙◌, ap₂, arith, get_or-set_other, get_or-set_same}
 use native.Mathlib.Decide.{ℕ_discrete, dec_lt}
 use lib.ListN.{get_or-eq_default}
 use lib.Seq.{set_out}
 use Rattle.circuit.specs.declared.Gate.{Gate}
 use Rattle.circuit.specs.declared.Gate.TheVariants.{Cnot, Phase, Inverter}
-use Rattle.circuit.specs.Bytes.{Bytes, put_at}
-use Rattle.circuit.specs.Gates.{gate_bytes, bytes_of}
+use Rattle.circuit.specs.Bytes.{Bytes}
+use Rattle.circuit.specs.Gates.{bytes_of}
 use Rattle.circuit.specs.File.{wires_of, gates_of}
 use Rattle.circuit.specs.Working.{written, Wrote}
-use Rattle.circuit.proofs.Decoding.{bytes_one, bytes_append, length-bytes}
+use Rattle.circuit.proofs.Decoding.{bytes_append, length-bytes}
 use Rattle.circuit.proofs.Callers.{GoodFile}
 use Rattle.circuit.proofs.Files.{file_sound}
 use Rattle.circuit.proofs.Parts.{wrote_nothing}
@@ -67,15 +67,13 @@ written_folded f bytes good held totals p q =
     ∙ remains_alike (total_at w gs) w gs (own_numbers most_wires) (own_numbers w) (file_sound f bytes good) (own_alike most_wires w good.few) ∙ sym (folded_remains w gs))
 
 -- what is left of one gate: its bytes, or none
-module _ (l : Option Gate) (at : ℕ) (out : List ℕ) where
+pub four_left : (l : Option Gate) (g : Gate) → l ≡ Some g → length (bytes_of (leaves l)) ≡ 4
+four_left l g e = length-bytes (leaves l) ∙ rw e
+
+module _ {l : Option Gate} {at : ℕ} {out : List ℕ} where
   pub goes : l ≡ None → at ≤ length out → Wrote (bytes_of (leaves l)) at out at out
   unfolding bytes_of
   goes e h = rw e (wrote_nothing at out h)
 
-  pub four_left : (g : Gate) → l ≡ Some g → length (bytes_of (leaves l)) ≡ 4
-  four_left g e = length-bytes (leaves l) ∙ rw e
-
-  pub stays : (g : Gate) → l ≡ Some g → (after : List ℕ) → after ≡ put_at (gate_bytes g) at out → Wrote (bytes_of (leaves l)) at out (at + 4) after
-  stays g e after p =
-      let b : gate_bytes g ≡ bytes_of (leaves l) = rw e (sym (bytes_one g)) in
-      record { ends = ap (at +◌) (sym (four_left g e)); written = p ∙ ap (λ (b : List ℕ). put_at b at out) b }
+  pub stays : {g : Gate} {behind : ℕ} {after : List ℕ} → l ≡ Some g → Wrote (bytes_of (g ∷ [])) at out behind after → Wrote (bytes_of (leaves l)) at out behind after
+  stays e w = rw e w

@@ -4,7 +4,7 @@
 ghost use Rattle.std.specs.Prelude.{◌≡◌};
 ghost use Rattle.fold.specs.Fold.{Folds};
 
-use circuit::Circuit;
+use circuit::{Circuit, Writer};
 use refusal::{Cause, Refusal};
 
 mod totals;
@@ -32,7 +32,8 @@ pub fn fold(file: &[u8], out: &mut [u8]) -> Result<Folded, Refusal>
         return Err(Cause::Room.into());
     }
     circuit::put_header(circuit.version(), circuit.wires(), kept as u16, out);
-    writer::write_gates(&circuit, &mut totals, out);
+    let mut writer = Writer { out, at: 8 };
+    writer::write_gates(&circuit, &mut totals, &mut writer);
     Ok(Folded {
         length,
         before: counted.score,

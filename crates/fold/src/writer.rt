@@ -1,14 +1,13 @@
 // The folded gates, written.
 ghost use Rattle.std.specs.Prelude.{◌≡◌, ◌+◌, ◌≤◌, length, slice_index, slice_set};
 ghost use Rattle.circuit.specs.Working.{Wrote};
-ghost use Rattle.circuit.specs.Bytes.{put_at};
 ghost use Rattle.circuit.specs.Gates.{bytes_of};
 ghost use Rattle.circuit.specs.File.{wires_of, gates_of};
 ghost use Rattle.running.specs.Working.{totals_of, met, numbers_after};
 ghost use Rattle.fold.specs.Fold.{folded, kept};
 ghost use Rattle.fold.specs.Working.{taken_from, found, left, leaves};
 
-use circuit::{Circuit, Gate};
+use circuit::{Circuit, Gate, Writer};
 
 // Takes a group's total: the entry becomes 0, so that later gates of the group find 0.
 fn take(totals: &mut [u16], group: u16) -> u16
@@ -56,30 +55,27 @@ fn fold_gate(gate: Gate, held: &mut [u16], totals: &mut [u16]) -> Option<Gate>
     }
 }
 
-// Writes what is left of a gate at `at`, and answers the place behind it.
-fn put_left(left: Option<Gate>, out: &mut [u8], at: usize) -> usize
-    requires { at + length (bytes_of (leaves left)) ≤ length out.old }
-    ensures { Wrote (bytes_of (leaves left)) at out.old result out.new }
+// What is left of a gate.
+fn put_left(left: Option<Gate>, writer: &mut Writer)
+    requires { writer.old.at + length (bytes_of (leaves left)) ≤ length writer.old.out.now }
+    ensures wrote { Wrote (bytes_of (leaves left)) writer.old.at writer.old.out.now writer.new.at writer.new.out.now }
+    ensures same_reference { writer.new.out.ghost_name ≡ writer.old.out.ghost_name }
 {
-    match left {
-        None => at,
-        Some(gate) => {
-            circuit::put_gate(gate, out, at);
-            at + 4
-        }
+    if let Some(gate) = left {
+        writer.put_gate(gate);
     }
 }
 
-// Writes the folded gates behind the header.
-pub(crate) fn write_gates(circuit: &Circuit, totals: &mut [u16], out: &mut [u8])
+// The folded gates.
+pub(crate) fn write_gates(circuit: &Circuit, totals: &mut [u16], writer: &mut Writer)
     requires summed { totals.old ≡ totals_of circuit.now.file.now }
-    requires fits { 8 + length (bytes_of (folded (wires_of circuit.now.file.now) (gates_of circuit.now.file.now))) ≤ length out.old }
-    ensures { out.new ≡ put_at (bytes_of (folded (wires_of circuit.now.file.now) (gates_of circuit.now.file.now))) 8 out.old }
+    requires fits { writer.old.at + length (bytes_of (folded (wires_of circuit.now.file.now) (gates_of circuit.now.file.now))) ≤ length writer.old.out.now }
+    ensures wrote { Wrote (bytes_of (folded (wires_of circuit.now.file.now) (gates_of circuit.now.file.now))) writer.old.at writer.old.out.now writer.new.at writer.new.out.now }
+    ensures same_reference { writer.new.out.ghost_name ≡ writer.old.out.ghost_name }
 {
     let mut held = running::own_held();
-    let mut at: usize = 8;
     for gate in circuit.gates() {
         let left = fold_gate(gate, &mut held, totals);
-        at = put_left(left, out, at);
+        put_left(left, writer);
     }
 }

@@ -1,7 +1,7 @@
 // Document 01, "Listing": a circuit as OpenQASM 2.0.
 #![tactic(auto)]
 
-use circuit::Circuit;
+use circuit::{Circuit, Writer};
 use refusal::{Cause, Refusal};
 
 mod lines;
@@ -45,16 +45,15 @@ fn fits(circuit: &Circuit, wrapped: bool, room: usize) -> bool
     frame + lines_length(circuit) <= room
 }
 
-// Writes the lines of a circuit's gates, and answers the place behind them.
-fn put_gates(circuit: &Circuit, out: &mut [u8], at: usize) -> usize
-    requires { at + length (gate_lines (gates_of circuit.now.file.now)) ≤ length out.old }
-    ensures { Wrote (gate_lines (gates_of circuit.now.file.now)) at out.old result out.new }
+// The lines of a circuit's gates.
+fn put_gates(circuit: &Circuit, writer: &mut Writer)
+    requires { writer.old.at + length (gate_lines (gates_of circuit.now.file.now)) ≤ length writer.old.out.now }
+    ensures wrote { Wrote (gate_lines (gates_of circuit.now.file.now)) writer.old.at writer.old.out.now writer.new.at writer.new.out.now }
+    ensures same_reference { writer.new.out.ghost_name ≡ writer.old.out.ghost_name }
 {
-    let mut next: usize = at;
     for gate in circuit.gates() {
-        next = lines::put_gate(gate, out, next);
+        lines::put_gate(gate, writer);
     }
-    next
 }
 
 // The text of a circuit at the front of out, or a refusal.
@@ -69,10 +68,12 @@ pub fn list(file: &[u8], wrapped: bool, out: &mut [u8]) -> Result<usize, Refusal
         return Err(Cause::Room.into());
     }
     let wires = circuit.wires();
-    let at = lines::put_head(wires, out, 0);
-    let at = lines::put_wrap(wrapped, wires, out, at);
-    let at = put_gates(&circuit, out, at);
-    Ok(lines::put_wrap(wrapped, wires, out, at))
+    let mut writer = Writer { out, at: 0 };
+    lines::put_head(wires, &mut writer);
+    lines::put_wrap(wrapped, wires, &mut writer);
+    put_gates(&circuit, &mut writer);
+    lines::put_wrap(wrapped, wires, &mut writer);
+    Ok(writer.at)
 }
 
 // The line that says a refusal's number, at the front of out, or refusal 13.
@@ -83,6 +84,8 @@ pub fn refused_line(number: u8, out: &mut [u8]) -> Result<usize, Refusal>
     if out.len() < words::REFUSED.len() + text::digits(number) + words::NEWLINE.len() {
         return Err(Cause::Room.into());
     }
-    let at = text::put_numbered(&words::REFUSED, number, out, 0);
-    Ok(text::put_text(&words::NEWLINE, out, at))
+    let mut writer = Writer { out, at: 0 };
+    text::put_numbered(&words::REFUSED, number, &mut writer);
+    writer.put(&words::NEWLINE);
+    Ok(writer.at)
 }

@@ -5,9 +5,9 @@ ghost use Rattle.listing.specs.Fractions.{over, fraction_of};
 ghost use Rattle.listing.specs.Listing.{head_lines, wrap_line, cnot_line, phase_line, gate_line};
 ghost use Rattle.listing.specs.Working.{head_length, cnot_length, phase_length, inverter_length};
 
-use crate::text::{digits, put_last, put_numbered, put_text};
+use crate::text::{digits, put_last, put_numbered};
 use crate::words;
-use circuit::Gate;
+use circuit::{Gate, Writer};
 
 // How often an angle and 32,768 can both be halved.
 fn halvings(angle: u16) -> u16
@@ -28,13 +28,14 @@ pub(crate) fn head_length(wires: u8) -> usize
 }
 
 // The three header lines.
-pub(crate) fn put_head(wires: u8, out: &mut [u8], at: usize) -> usize
-    requires { at + length (head_lines wires) ≤ length out.old }
-    ensures { Wrote (head_lines wires) at out.old result out.new }
+pub(crate) fn put_head(wires: u8, writer: &mut Writer)
+    requires { writer.old.at + length (head_lines wires) ≤ length writer.old.out.now }
+    ensures wrote { Wrote (head_lines wires) writer.old.at writer.old.out.now writer.new.at writer.new.out.now }
+    ensures same_reference { writer.new.out.ghost_name ≡ writer.old.out.ghost_name }
 {
-    let at = put_text(&words::VERSION, out, at);
-    let at = put_text(&words::INCLUDE, out, at);
-    put_last(&words::REGISTER, wires as u16, out, at)
+    writer.put(&words::VERSION);
+    writer.put(&words::INCLUDE);
+    put_last(&words::REGISTER, wires as u16, writer);
 }
 
 // The length of the h line on the last wire, if wrapped.
@@ -49,15 +50,15 @@ pub(crate) fn wrap_length(wrapped: bool, wires: u8) -> usize
 }
 
 // If wrapped, the h line on the last wire.
-pub(crate) fn put_wrap(wrapped: bool, wires: u8, out: &mut [u8], at: usize) -> usize
+pub(crate) fn put_wrap(wrapped: bool, wires: u8, writer: &mut Writer)
     requires le_wires { 1 ≤ wires }
-    requires wires_in_bounds { at + length (wrap_line wrapped wires) ≤ length out.old }
-    ensures { Wrote (wrap_line wrapped wires) at out.old result out.new }
+    requires wires_in_bounds { writer.old.at + length (wrap_line wrapped wires) ≤ length writer.old.out.now }
+    ensures wrote { Wrote (wrap_line wrapped wires) writer.old.at writer.old.out.now writer.new.at writer.new.out.now }
+    ensures same_reference { writer.new.out.ghost_name ≡ writer.old.out.ghost_name }
 {
     if wrapped {
-        return put_last(&words::HADAMARD, (wires - 1) as u16, out, at);
+        put_last(&words::HADAMARD, (wires - 1) as u16, writer);
     }
-    at
 }
 
 fn cnot_length(control: u8, target: u8) -> usize
@@ -102,34 +103,37 @@ pub(crate) fn line_length(gate: Gate) -> usize
     }
 }
 
-fn put_cnot(control: u8, target: u8, out: &mut [u8], at: usize) -> usize
-    requires { at + length (cnot_line control target) ≤ length out.old }
-    ensures { Wrote (cnot_line control target) at out.old result out.new }
+fn put_cnot(control: u8, target: u8, writer: &mut Writer)
+    requires { writer.old.at + length (cnot_line control target) ≤ length writer.old.out.now }
+    ensures wrote { Wrote (cnot_line control target) writer.old.at writer.old.out.now writer.new.at writer.new.out.now }
+    ensures same_reference { writer.new.out.ghost_name ≡ writer.old.out.ghost_name }
 {
-    let at = put_numbered(&words::CNOT, control as u16, out, at);
-    put_last(&words::TARGET, target as u16, out, at)
+    put_numbered(&words::CNOT, control as u16, writer);
+    put_last(&words::TARGET, target as u16, writer);
 }
 
-fn put_phase(wire: u8, above: u16, below: u16, out: &mut [u8], at: usize) -> usize
-    requires { at + length (phase_line wire (over above below)) ≤ length out.old }
-    ensures { Wrote (phase_line wire (over above below)) at out.old result out.new }
+fn put_phase(wire: u8, above: u16, below: u16, writer: &mut Writer)
+    requires { writer.old.at + length (phase_line wire (over above below)) ≤ length writer.old.out.now }
+    ensures wrote { Wrote (phase_line wire (over above below)) writer.old.at writer.old.out.now writer.new.at writer.new.out.now }
+    ensures same_reference { writer.new.out.ghost_name ≡ writer.old.out.ghost_name }
 {
-    let at = put_numbered(&words::PHASE, above, out, at);
-    let at = put_numbered(&words::OVER, below, out, at);
-    put_last(&words::WIRE, wire as u16, out, at)
+    put_numbered(&words::PHASE, above, writer);
+    put_numbered(&words::OVER, below, writer);
+    put_last(&words::WIRE, wire as u16, writer);
 }
 
 // A gate's line.
-pub(crate) fn put_gate(gate: Gate, out: &mut [u8], at: usize) -> usize
-    requires { at + length (gate_line gate) ≤ length out.old }
-    ensures { Wrote (gate_line gate) at out.old result out.new }
+pub(crate) fn put_gate(gate: Gate, writer: &mut Writer)
+    requires { writer.old.at + length (gate_line gate) ≤ length writer.old.out.now }
+    ensures wrote { Wrote (gate_line gate) writer.old.at writer.old.out.now writer.new.at writer.new.out.now }
+    ensures same_reference { writer.new.out.ghost_name ≡ writer.old.out.ghost_name }
 {
     match gate {
-        Gate::Cnot { control, target } => put_cnot(control, target, out, at),
+        Gate::Cnot { control, target } => put_cnot(control, target, writer),
         Gate::Phase { wire, angle } => {
             let twos = halvings(angle);
-            put_phase(wire, angle >> twos, 32768 >> twos, out, at)
+            put_phase(wire, angle >> twos, 32768 >> twos, writer)
         }
-        Gate::Inverter { wire } => put_last(&words::INVERTER, wire as u16, out, at),
+        Gate::Inverter { wire } => put_last(&words::INVERTER, wire as u16, writer),
     }
 }

@@ -1,19 +1,11 @@
-// Fixed words and numbers, written as text. Each writer answers the place behind what it wrote.
+// Fixed words and numbers, written as text.
 ghost use Rattle.std.specs.Prelude.{◌≡◌, cond, [], ◌++◌, ◌+◌, ◌%◌, ◌≤◌, ltb, length};
 ghost use Rattle.circuit.specs.Working.{Wrote};
 ghost use Rattle.listing.specs.Text.{digit, decimal};
 ghost use Rattle.listing.specs.Words.{words};
 
 use crate::words::CLOSING;
-
-pub(crate) fn put_text(text: &[u8], out: &mut [u8], at: usize) -> usize
-    requires { at + length text.now ≤ length out.old }
-    ensures { Wrote text.now at out.old result out.new }
-{
-    let end = at + text.len();
-    out[at..end].copy_from_slice(text);
-    end
-}
+use circuit::Writer;
 
 // How many digits a number has.
 pub(crate) fn digits(n: u16) -> usize
@@ -29,51 +21,55 @@ pub(crate) fn digits(n: u16) -> usize
 }
 
 // A number's last digit.
-fn put_digit(n: u16, out: &mut [u8], at: usize) -> usize
-    requires { at + length (digit (n % 10)) ≤ length out.old }
-    ensures { Wrote (digit (n % 10)) at out.old result out.new }
+fn put_digit(n: u16, writer: &mut Writer)
+    requires { writer.old.at + length (digit (n % 10)) ≤ length writer.old.out.now }
+    ensures wrote { Wrote (digit (n % 10)) writer.old.at writer.old.out.now writer.new.at writer.new.out.now }
+    ensures same_reference { writer.new.out.ghost_name ≡ writer.old.out.ghost_name }
 {
-    out[at] = 48 + ((n % 10) as u8);
-    at + 1
+    writer.put(&[48 + ((n % 10) as u8)]);
 }
 
 // The same of a number but 0. Of 0 nothing: it would be a leading zero.
-fn put_leading(n: u16, out: &mut [u8], at: usize) -> usize
-    requires { at + length (cond (ltb 0 n) (digit (n % 10)) []) ≤ length out.old }
-    ensures { Wrote (cond (ltb 0 n) (digit (n % 10)) []) at out.old result out.new }
+fn put_leading(n: u16, writer: &mut Writer)
+    requires { writer.old.at + length (cond (ltb 0 n) (digit (n % 10)) []) ≤ length writer.old.out.now }
+    ensures wrote { Wrote (cond (ltb 0 n) (digit (n % 10)) []) writer.old.at writer.old.out.now writer.new.at writer.new.out.now }
+    ensures same_reference { writer.new.out.ghost_name ≡ writer.old.out.ghost_name }
 {
     if n == 0 {
-        return at;
+        return;
     }
-    put_digit(n, out, at)
+    put_digit(n, writer);
 }
 
 // A number in decimal, without leading zeros: its first digit is at the highest power of ten that it reaches.
-fn put_decimal(n: u16, out: &mut [u8], at: usize) -> usize
-    requires { at + length (decimal n) ≤ length out.old }
-    ensures { Wrote (decimal n) at out.old result out.new }
+fn put_decimal(n: u16, writer: &mut Writer)
+    requires { writer.old.at + length (decimal n) ≤ length writer.old.out.now }
+    ensures wrote { Wrote (decimal n) writer.old.at writer.old.out.now writer.new.at writer.new.out.now }
+    ensures same_reference { writer.new.out.ghost_name ≡ writer.old.out.ghost_name }
 {
-    let at = put_leading(n / 10000, out, at);
-    let at = put_leading(n / 1000, out, at);
-    let at = put_leading(n / 100, out, at);
-    let at = put_leading(n / 10, out, at);
-    put_digit(n, out, at)
+    put_leading(n / 10000, writer);
+    put_leading(n / 1000, writer);
+    put_leading(n / 100, writer);
+    put_leading(n / 10, writer);
+    put_digit(n, writer);
 }
 
 // A fixed word, then a number.
-pub(crate) fn put_numbered(word: &[u8], n: u16, out: &mut [u8], at: usize) -> usize
-    requires { at + length (word.now ++ decimal n) ≤ length out.old }
-    ensures { Wrote (word.now ++ decimal n) at out.old result out.new }
+pub(crate) fn put_numbered(word: &[u8], n: u16, writer: &mut Writer)
+    requires { writer.old.at + length (word.now ++ decimal n) ≤ length writer.old.out.now }
+    ensures wrote { Wrote (word.now ++ decimal n) writer.old.at writer.old.out.now writer.new.at writer.new.out.now }
+    ensures same_reference { writer.new.out.ghost_name ≡ writer.old.out.ghost_name }
 {
-    let at = put_text(word, out, at);
-    put_decimal(n, out, at)
+    writer.put(word);
+    put_decimal(n, writer);
 }
 
 // The same, and what ends the line.
-pub(crate) fn put_last(word: &[u8], n: u16, out: &mut [u8], at: usize) -> usize
-    requires { at + length ((word.now ++ decimal n) ++ words.closing) ≤ length out.old }
-    ensures { Wrote ((word.now ++ decimal n) ++ words.closing) at out.old result out.new }
+pub(crate) fn put_last(word: &[u8], n: u16, writer: &mut Writer)
+    requires { writer.old.at + length ((word.now ++ decimal n) ++ words.closing) ≤ length writer.old.out.now }
+    ensures wrote { Wrote ((word.now ++ decimal n) ++ words.closing) writer.old.at writer.old.out.now writer.new.at writer.new.out.now }
+    ensures same_reference { writer.new.out.ghost_name ≡ writer.old.out.ghost_name }
 {
-    let at = put_numbered(word, n, out, at);
-    put_text(&CLOSING, out, at)
+    put_numbered(word, n, writer);
+    writer.put(&CLOSING);
 }

@@ -1,4 +1,5 @@
-use Rattle.std.proofs.Common.{ℕ, ◌+◌, ◌-◌, List, ◌++◌, get_or, refl}
+use Rattle.std.proofs.Common.{rules, ◌≡◌, subst, ℕ, ◌+◌, ◌-◌, List, ◌++◌, get_or, refl}
+use Rattle.circuit.specs.Bytes.{put_at}
 use Rattle.circuit.specs.Gates.{bytes_of}
 use Rattle.circuit.specs.File.{header_bytes, file_of}
 use Rattle.circuit.specs.Working.{Wrote}
@@ -45,18 +46,20 @@ pub overflow_sub-gates : goal.overflow_sub-gates
 overflow_sub-gates c =
     (gates_fit c.args.n (λ k. get_or c.args.theta.now k 0) (λ v. get_or c.args.minus.now v 0) c.requires.n_nonzero c.requires.n_bound c.power-gates.result c.power-gates.ensures).0
 
-pub first_quarter-at-requires : goal.first_quarter-at-requires
-first_quarter-at-requires c =
-    let p = (goal.at.first_quarter-at-requires c).After-put_header in
+pub first_quarter-requires : goal.first_quarter-requires
+first_quarter-requires c =
+    let p = (goal.at.first_quarter-requires c).After-put_header in
     room (quarter p) _ (header_done p)
 
-pub variables-at-requires-clause-room : goal.variables-at-requires-clause-room
-variables-at-requires-clause-room c =
-    let p = (goal.at.variables-at-requires-clause-room c).After-put_header in
-    room (wires p) _ (quarter_done p c.first_quarter-at.ensures)
+pub variables-requires-clause-room : goal.variables-requires-clause-room
+variables-requires-clause-room c =
+    let p = (goal.at.variables-requires-clause-room c).After-put_header in
+    room (wires p) _ (quarter_done p c.first_quarter.ensures.wrote)
 
 pub block-requires-clause-room : goal.block-requires-clause-room
-block-requires-clause-room c = (wires_done (goal.at.block-requires-clause-room c).After-put_header c.first_quarter-at.ensures c.variables-at.ensures).fits
+block-requires-clause-room c = (wires_done (goal.at.block-requires-clause-room c).After-put_header c.first_quarter.ensures.wrote c.variables.ensures.wrote).fits
 
 pub returns : goal.returns
-returns c = (all_written (wires_done (goal.at.returns c).After-put_header c.first_quarter-at.ensures c.variables-at.ensures) c.block.ensures).written
+returns c =
+    let p = (goal.at.returns c).After-put_header in
+    subst (λ (o : List ℕ). o ≡ put_at (whole p) 0 c.args.out.now) (search rules) (all_written (wires_done p c.first_quarter.ensures.wrote c.variables.ensures.wrote) c.block.ensures.wrote).written

@@ -1,4 +1,4 @@
-use Rattle.std.proofs.Common.{◌+◌, ◌*◌, ◌≤◌, length, sym, ap, subst, ap₂, arith}
+use Rattle.std.proofs.Common.{rules, ℕ, List, ◌+◌, ◌*◌, ◌≤◌, length, sym, ap, subst, ap₂, arith}
 use Rattle.std.specs.Prelude.{Ok, Err}
 use Rattle.refusal.proofs.Contracts.{handed_on}
 use Rattle.refusal.proofs.Passed.{fail_passed}
@@ -61,6 +61,7 @@ returns c =
     let n = c.count_gates-counted in
     let r = room_of (goal.at.returns c).After-tally_of-tally in
     let h : length (folded_file f) ≤ length out = omega (arith, r.whole) in
-    subst (λ g. Folds g out (Ok (record { length = 8 + 4 * (n.result.cnots + n.result.inverters + c.tally_of-tally.result.kept); before = n.result.score; after = c.tally_of-tally.result.score })) c.write_gates.new.out) i.ensures
-    (answered f out (fail_passed (file_checks 0 f) i.circuit.good) h _ r.whole (ap (λ (a : Counted). a.score) n.ensures) r.after c.write_gates.new.out
-    (file_written f out h c.version.result _ c.put_header.new.out c.write_gates.new.out c.version.ensures r.kept (rw (sym c.wires.ensures) c.put_header.ensures) c.write_gates.ensures))
+    subst (λ (o : List ℕ). Folds c.args.file.now out (Ok (record { length = 8 + 4 * (n.result.cnots + n.result.inverters + c.tally_of-tally.result.kept); before = n.result.score; after = c.tally_of-tally.result.score })) o) (search rules)
+    (subst (λ g. Folds g out (Ok (record { length = 8 + 4 * (n.result.cnots + n.result.inverters + c.tally_of-tally.result.kept); before = n.result.score; after = c.tally_of-tally.result.score })) c.write_gates.new.writer.out.now) i.ensures
+    (answered f out (fail_passed (file_checks 0 f) i.circuit.good) h _ r.whole (ap (λ (a : Counted). a.score) n.ensures) r.after c.write_gates.new.writer.out.now
+    (file_written f out h c.version.result _ c.put_header.new.out c.write_gates.new.writer.out.now c.version.ensures r.kept (rw (sym c.wires.ensures) c.put_header.ensures) c.write_gates.ensures.wrote.written)))

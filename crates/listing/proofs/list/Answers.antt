@@ -1,3 +1,5 @@
+use Rattle.std.proofs.Common.{rules}
+use Rattle.std.specs.Prelude.{Ok}
 use Prim.Native.Nat.{ℕ, ◌+◌, ◌≤◌}
 use mathlib.Core.Path.{◌≡◌, sym, ap, subst, ◌∙◌}
 use mathlib.Core.Bool.{Bool, true, false, cond}
@@ -78,21 +80,21 @@ returns-then-not-fits c =
     room_fails _ _ out (comes_to (goal.at.returns-then-not-fits c).After-is_loose false c.if-is_loose.false)
     (leb-false (length (text b f)) (length out) (sym (c.fits.ensures ∙ ap (λ h. leb (length (text b h)) (length out)) c.in_ok-circuit.ensures) ∙ c.if-not-fits.true)) c.into-then-not-fits.result c.into-then-not-fits.ensures
 
-pub put_head-at-requires : goal.put_head-at-requires
-put_head-at-requires c = room (head_lines c.wires-wires.result) _ (text_left (goal.at.put_head-at-requires c).After-wires-wires)
-
-pub put_wrap-at-requires-clause-wires_in_bounds : goal.put_wrap-at-requires-clause-wires_in_bounds
-put_wrap-at-requires-clause-wires_in_bounds c =
-    room (wrap_line c.args.wrapped c.wires-wires.result) _ (behind_head (goal.at.put_wrap-at-requires-clause-wires_in_bounds c).After-wires-wires c.put_head-at.ensures)
-
-pub put_gates-at-requires : goal.put_gates-at-requires
-put_gates-at-requires c =
-    subst (λ f. c.put_wrap-at.result + length (lines f) ≤ length c.put_wrap-at.new.out) (sym c.in_ok-circuit.ensures)
-    (room (lines c.args.file.now) _ (behind_wrap (goal.at.put_gates-at-requires c).After-wires-wires c.put_head-at.ensures c.put_wrap-at.ensures))
+pub put_head-requires : goal.put_head-requires
+put_head-requires c = room (head_lines c.wires-wires.result) _ (text_left (goal.at.put_head-requires c).After-wires-wires)
 
 pub put_wrap-requires-clause-wires_in_bounds : goal.put_wrap-requires-clause-wires_in_bounds
 put_wrap-requires-clause-wires_in_bounds c =
-    (behind_gates (goal.at.put_wrap-requires-clause-wires_in_bounds c).After-wires-wires c.put_head-at.ensures c.put_wrap-at.ensures c.put_gates-at.ensures).fits
+    room (wrap_line c.args.wrapped c.wires-wires.result) _ (behind_head (goal.at.put_wrap-requires-clause-wires_in_bounds c).After-wires-wires c.put_head.ensures.wrote)
+
+pub put_gates-requires : goal.put_gates-requires
+put_gates-requires c =
+    subst (λ f. c.put_wrap.new.writer.at + length (lines f) ≤ length c.put_wrap.new.writer.out.now) (sym c.in_ok-circuit.ensures)
+    (room (lines c.args.file.now) _ (behind_wrap (goal.at.put_gates-requires c).After-wires-wires c.put_head.ensures.wrote c.put_wrap.ensures.wrote))
+
+pub put_wrap-requires-2-clause-wires_in_bounds : goal.put_wrap-requires-2-clause-wires_in_bounds
+put_wrap-requires-2-clause-wires_in_bounds c =
+    (behind_gates (goal.at.put_wrap-requires-2-clause-wires_in_bounds c).After-wires-wires c.put_head.ensures.wrote c.put_wrap.ensures.wrote c.put_gates.ensures.wrote).fits
 
 pub returns-in_err-circuit : goal.returns-in_err-circuit
 returns-in_err-circuit c =
@@ -105,5 +107,6 @@ returns-in_err-circuit c =
 pub returns : goal.returns
 returns c =
     let p = (goal.at.returns c).After-wires-wires in
-    answered _ _ c.args.out.now (comes_to (goal.at.returns c).After-is_loose false c.if-is_loose.false) (enough p) c.put_wrap.result c.put_wrap.new.out
-    (all_written (behind_gates p c.put_head-at.ensures c.put_wrap-at.ensures c.put_gates-at.ensures) c.put_wrap.ensures)
+    subst (λ (o : List ℕ). Lists c.args.wrapped c.args.file.now c.args.out.now (Ok c.put_wrap-2.new.writer.at) o) (search rules)
+    (answered _ _ c.args.out.now (comes_to (goal.at.returns c).After-is_loose false c.if-is_loose.false) (enough p) c.put_wrap-2.new.writer.at c.put_wrap-2.new.writer.out.now
+    (all_written (behind_gates p c.put_head.ensures.wrote c.put_wrap.ensures.wrote c.put_gates.ensures.wrote) c.put_wrap-2.ensures.wrote))

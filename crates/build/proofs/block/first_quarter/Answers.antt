@@ -2,6 +2,6 @@ use Rattle.std.proofs.Common.{rules}
 use Rattle.circuit.specs.Gates.{bytes_of}
 use Rattle.build.proofs.block.first_quarter.Goals as goal
 
-pub put-requires : goal.put-requires
+pub put_gate-requires : goal.put_gate-requires
 unfolding bytes_of
-put-requires c = search rules
+put_gate-requires c = search rules

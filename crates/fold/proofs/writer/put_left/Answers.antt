@@ -1,9 +1,12 @@
 use Rattle.std.proofs.Common.{arith}
-use Rattle.fold.proofs.Writing.{goes, stays}
+use Rattle.fold.proofs.Writing.{goes, stays, four_left}
 use Rattle.fold.proofs.writer.put_left.Goals as goal
 
-pub returns-in-None : goal.returns-in-None
-returns-in-None c = goes c.args.left c.args.at c.args.out.now c.in-None.is (omega (arith, c.requires))
+pub put_gate-requires : goal.put_gate-requires
+put_gate-requires c = omega (arith, c.requires, four_left c.args.left c.in-Some.gate c.in-Some.is)
 
-pub returns-in-Some : goal.returns-in-Some
-returns-in-Some c = stays c.args.left c.args.at c.args.out.now c.in-Some.gate c.in-Some.is c.put_gate.new.out c.put_gate.ensures
+pub returns-in-Some-clause-wrote : goal.returns-in-Some-clause-wrote
+returns-in-Some-clause-wrote c = stays c.in-Some.is c.put_gate.ensures.wrote
+
+pub returns-in_default-clause-wrote : goal.returns-in_default-clause-wrote
+returns-in_default-clause-wrote c = goes c.in_default.is (omega (arith, c.requires))

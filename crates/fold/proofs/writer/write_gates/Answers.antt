@@ -20,13 +20,13 @@ loop-gate-init c =
     let totals = c.args.totals.now in
     let e = written_folded f i.bytes (good_circuit i.good) held totals c.own_held-held.ensures c.requires.summed in
     let all = ap (λ s. said_gates s.left.now) c.into_iter-gate-iterator.ensures.into_iter_gives ∙ c.gates-gate-items.ensures in
-    (writing_starts fold_step (gates_of f) (held, totals) fold_put 8 c.args.out.now all (room_same 8 c.args.out.now e c.requires.fits), refl, refl)
+    (writing_starts fold_step (gates_of f) (held, totals) fold_put c.args.writer.now.at c.args.writer.now.out.now all (room_same c.args.writer.now.at c.args.writer.now.out.now e c.requires.fits), refl, refl, refl)
 
-pub put_left-at-requires : goal.put_left-at-requires
-put_left-at-requires c =
+pub put_left-requires : goal.put_left-requires
+put_left-requires c =
     let at = c.loop-gate in
-    room_same at.at at.out (ap bytes_of c.fold_gate-left.ensures.result_value)
-    (writing_room fold_step (gates_of c.args.circuit.now.file.now) (c.own_held-held.result, c.args.totals.now) fold_put 8 c.args.out.now (at.held, at.totals) c.in-Some.ensures.steps at.invariant.0)
+    room_same at.writer.at at.writer.out.now (ap bytes_of c.fold_gate-left.ensures.result_value)
+    (writing_room fold_step (gates_of c.args.circuit.now.file.now) (c.own_held-held.result, c.args.totals.now) fold_put c.args.writer.now.at c.args.writer.now.out.now (at.held, at.totals) c.in-Some.ensures.steps at.invariant.0)
 
 pub loop-gate-preserved : goal.loop-gate-preserved
 loop-gate-preserved c =
@@ -35,18 +35,19 @@ loop-gate-preserved c =
     let held = c.fold_gate-left.new.held in
     let totals = c.fold_gate-left.new.totals in
     let e = c.fold_gate-left.ensures in (
-      writing_goes_on fold_step (gates_of c.args.circuit.now.file.now) (c.own_held-held.result, c.args.totals.now) fold_put 8 c.args.out.now (at.held, at.totals) c.in-Some.ensures.steps at.invariant.0
-          (fold_stepped g at.held at.totals held totals e.held_after e.totals_after) (wrote_same (ap bytes_of e.result_value) c.put_left-at.ensures),
+      writing_goes_on fold_step (gates_of c.args.circuit.now.file.now) (c.own_held-held.result, c.args.totals.now) fold_put c.args.writer.now.at c.args.writer.now.out.now (at.held, at.totals) c.in-Some.ensures.steps at.invariant.0
+          (fold_stepped g at.held at.totals held totals e.held_after e.totals_after) (wrote_same (ap bytes_of e.result_value) c.put_left.ensures.wrote),
       ap length e.held_after ∙ length-after g at.held ∙ at.invariant.1,
       ap length e.totals_after ∙ length_taken (met g at.held) at.totals ∙ at.invariant.2,
+      c.put_left.ensures.same_reference ∙ at.invariant.3,
     )
 
-pub returns : goal.returns
-returns c =
+pub returns-clause-wrote : goal.returns-clause-wrote
+returns-clause-wrote c =
     let i = c.args.circuit.now in
     let f = i.file.now in
     let at = c.loop-gate in
     let held = c.own_held-held.result in
     let totals = c.args.totals.now in
-    (wrote_same (written_folded f i.bytes (good_circuit i.good) held totals c.own_held-held.ensures c.requires.summed)
-    (writing_ends fold_step (gates_of f) (held, totals) fold_put 8 c.args.out.now (at.held, at.totals) c.in-None.ensures.steps.0 at.invariant.0)).written
+    wrote_same (written_folded f i.bytes (good_circuit i.good) held totals c.own_held-held.ensures c.requires.summed)
+    (writing_ends fold_step (gates_of f) (held, totals) fold_put c.args.writer.now.at c.args.writer.now.out.now (at.held, at.totals) c.in-None.ensures.steps.0 at.invariant.0)

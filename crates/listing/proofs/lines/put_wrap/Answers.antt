@@ -6,14 +6,14 @@ use Rattle.listing.proofs.lines.put_wrap.Goals as goal
 pub put_last-requires : goal.put_last-requires
 put_last-requires c =
     let a = c.args in
-    (wrap_left a.wrapped a.wires a.at a.out.now c.if-wrapped.true c.requires.wires_in_bounds).fits
+    (wrap_left a.wrapped a.wires a.writer.now.at a.writer.now.out.now c.if-wrapped.true c.requires.wires_in_bounds).fits
 
-pub returns-then-wrapped : goal.returns-then-wrapped
-returns-then-wrapped c =
+pub returns-then-wrapped-clause-wrote : goal.returns-then-wrapped-clause-wrote
+returns-then-wrapped-clause-wrote c =
     let a = c.args in
-    all_written (wrap_left a.wrapped a.wires a.at a.out.now c.if-wrapped.true c.requires.wires_in_bounds) c.put_last.ensures
+    all_written (wrap_left a.wrapped a.wires a.writer.now.at a.writer.now.out.now c.if-wrapped.true c.requires.wires_in_bounds) c.put_last.ensures.wrote
 
-pub returns : goal.returns
-returns c =
+pub returns-else-wrapped-clause-wrote : goal.returns-else-wrapped-clause-wrote
+returns-else-wrapped-clause-wrote c =
     let a = c.args in
-    wrote_same (not_wrapped a.wrapped a.wires c.if-wrapped.false) (wrote_nothing a.at a.out.now (omega arith))
+    wrote_same (not_wrapped a.wrapped a.wires c.if-wrapped.false) (wrote_nothing a.writer.now.at a.writer.now.out.now (omega arith))

@@ -44,32 +44,32 @@ module _ (n at : ℕ) (out : List ℕ) (small : n < 100000) (h : at + length (de
         ones_left : {at4 : ℕ} {out4 : List ℕ} → Wrote (leading (n / 10)) at3 out3 at4 out4 → Left (decimal n) at out (ones n) at4 out4
         ones_left = less_left (leading (n / 10)) (ones n) tens_left
 
-pub put_leading-at-requires : goal.put_leading-at-requires
-put_leading-at-requires c =
+pub put_leading-requires : goal.put_leading-requires
+put_leading-requires c =
     let a = c.args in
-    room (leading (a.n / 10000)) (thousands a.n) (myriads_left a.n a.at a.out.now (omega arith) c.requires)
+    room (leading (a.n / 10000)) (thousands a.n) (myriads_left a.n a.writer.now.at a.writer.now.out.now (omega arith) c.requires)
 
-pub put_leading-at-requires-2 : goal.put_leading-at-requires-2
-put_leading-at-requires-2 c =
+pub put_leading-requires-2 : goal.put_leading-requires-2
+put_leading-requires-2 c =
     let a = c.args in
-    room (leading (a.n / 1000)) (hundreds a.n) (thousands_left a.n a.at a.out.now (omega arith) c.requires c.put_leading-at.ensures)
+    room (leading (a.n / 1000)) (hundreds a.n) (thousands_left a.n a.writer.now.at a.writer.now.out.now (omega arith) c.requires c.put_leading.ensures.wrote)
 
-pub put_leading-at-requires-3 : goal.put_leading-at-requires-3
-put_leading-at-requires-3 c =
+pub put_leading-requires-3 : goal.put_leading-requires-3
+put_leading-requires-3 c =
     let a = c.args in
-    room (leading (a.n / 100)) (tens a.n) (hundreds_left a.n a.at a.out.now (omega arith) c.requires c.put_leading-at.ensures c.put_leading-at-2.ensures)
+    room (leading (a.n / 100)) (tens a.n) (hundreds_left a.n a.writer.now.at a.writer.now.out.now (omega arith) c.requires c.put_leading.ensures.wrote c.put_leading-2.ensures.wrote)
 
-pub put_leading-at-requires-4 : goal.put_leading-at-requires-4
-put_leading-at-requires-4 c =
+pub put_leading-requires-4 : goal.put_leading-requires-4
+put_leading-requires-4 c =
     let a = c.args in
-    room (leading (a.n / 10)) (ones a.n) (tens_left a.n a.at a.out.now (omega arith) c.requires c.put_leading-at.ensures c.put_leading-at-2.ensures c.put_leading-at-3.ensures)
+    room (leading (a.n / 10)) (ones a.n) (tens_left a.n a.writer.now.at a.writer.now.out.now (omega arith) c.requires c.put_leading.ensures.wrote c.put_leading-2.ensures.wrote c.put_leading-3.ensures.wrote)
 
 pub put_digit-requires : goal.put_digit-requires
 put_digit-requires c =
     let a = c.args in
-    (ones_left a.n a.at a.out.now (omega arith) c.requires c.put_leading-at.ensures c.put_leading-at-2.ensures c.put_leading-at-3.ensures c.put_leading-at-4.ensures).fits
+    (ones_left a.n a.writer.now.at a.writer.now.out.now (omega arith) c.requires c.put_leading.ensures.wrote c.put_leading-2.ensures.wrote c.put_leading-3.ensures.wrote c.put_leading-4.ensures.wrote).fits
 
-pub returns : goal.returns
-returns c =
+pub returns-clause-wrote : goal.returns-clause-wrote
+returns-clause-wrote c =
     let a = c.args in
-    all_written (ones_left a.n a.at a.out.now (omega arith) c.requires c.put_leading-at.ensures c.put_leading-at-2.ensures c.put_leading-at-3.ensures c.put_leading-at-4.ensures) c.put_digit.ensures
+    all_written (ones_left a.n a.writer.now.at a.writer.now.out.now (omega arith) c.requires c.put_leading.ensures.wrote c.put_leading-2.ensures.wrote c.put_leading-3.ensures.wrote c.put_leading-4.ensures.wrote) c.put_digit.ensures.wrote

@@ -5,7 +5,7 @@ use Rattle.listing.specs.Text.{decimal}
 use Rattle.listing.specs.Words.{words}
 use Rattle.listing.proofs.text.put_last.Goals as goal
 
-pub returns : goal.returns
-returns c =
+pub returns-clause-wrote : goal.returns-clause-wrote
+returns-clause-wrote c =
     let a = c.args in
-    all_written (less_left (a.word.now ++ decimal a.n) words.closing (all_left a.at a.out.now refl c.requires) c.put_numbered-at.ensures) c.put_text.ensures
+    all_written (less_left (a.word.now ++ decimal a.n) words.closing (all_left a.writer.now.at a.writer.now.out.now refl c.requires) c.put_numbered.ensures.wrote) c.put.ensures.wrote

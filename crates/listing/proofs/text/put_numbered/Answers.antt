@@ -3,7 +3,7 @@ use Rattle.circuit.proofs.Parts.{all_left, less_left, all_written}
 use Rattle.listing.specs.Text.{decimal}
 use Rattle.listing.proofs.text.put_numbered.Goals as goal
 
-pub returns : goal.returns
-returns c =
+pub returns-clause-wrote : goal.returns-clause-wrote
+returns-clause-wrote c =
     let a = c.args in
-    all_written (less_left a.word.now (decimal a.n) (all_left a.at a.out.now refl c.requires) c.put_text-at.ensures) c.put_decimal.ensures
+    all_written (less_left a.word.now (decimal a.n) (all_left a.writer.now.at a.writer.now.out.now refl c.requires) c.put.ensures.wrote) c.put_decimal.ensures.wrote

@@ -1,0 +1,35 @@
+// A slice that is written from its front on, and the place behind what is written.
+ghost use Rattle.std.specs.Prelude.{◌≡◌, ◌+◌, ◌≤◌, [], ◌∷◌, length};
+ghost use Rattle.circuit.specs.Gates.{bytes_of};
+ghost use Rattle.circuit.specs.Working.{Wrote};
+
+use crate::Gate;
+use crate::writer::gate_bytes;
+
+#[derive(Drop)]
+pub struct Writer<'a> {
+    pub out: &'a mut [u8],
+    pub at: usize,
+}
+
+impl<'a> Writer<'a> {
+    // Bytes at the place, which moves behind them.
+    pub fn put(&mut self, bytes: &[u8])
+        requires { self.old.at + length bytes.now ≤ length self.old.out.now }
+        ensures wrote { Wrote bytes.now self.old.at self.old.out.now self.new.at self.new.out.now }
+        ensures same_reference { self.new.out.ghost_name ≡ self.old.out.ghost_name }
+    {
+        let end = self.at + bytes.len();
+        self.out[self.at..end].copy_from_slice(bytes);
+        self.at = end;
+    }
+
+    // A gate's four bytes.
+    pub fn put_gate(&mut self, gate: Gate)
+        requires { self.old.at + 4 ≤ length self.old.out.now }
+        ensures wrote { Wrote (bytes_of (gate ∷ [])) self.old.at self.old.out.now self.new.at self.new.out.now }
+        ensures same_reference { self.new.out.ghost_name ≡ self.old.out.ghost_name }
+    {
+        self.put(&gate_bytes(gate));
+    }
+}
