@@ -13,10 +13,13 @@ pub(crate) fn first_quarter(n: u8, writer: &mut Writer)
     ensures wrote { Wrote (bytes_of (first_quarter n)) writer.old.at writer.old.out.now writer.new.at writer.new.out.now }
     ensures same_reference { writer.new.out.ghost_name ≡ writer.old.out.ghost_name }
 {
-    writer.put_gate(Gate::Phase {
-        wire: n,
-        angle: 16384,
-    });
+    put(
+        Gate::Phase {
+            wire: n,
+            angle: 16384,
+        },
+        writer,
+    );
 }
 
 // The blocks of wires 0 to n - 1, each with the angles from 2^i on. Wire 0 has one word, and no CNOT.
@@ -28,10 +31,13 @@ pub(crate) fn variables(n: u8, angles: &[u16], writer: &mut Writer)
     ensures wrote { Wrote (bytes_of (gatesOfVariables n (λ k. slice_index angles.now k))) writer.old.at writer.old.out.now writer.new.at writer.new.out.now }
     ensures same_reference { writer.new.out.ghost_name ≡ writer.old.out.ghost_name }
 {
-    writer.put_gate(Gate::Phase {
-        wire: 0,
-        angle: angles[1],
-    });
+    put(
+        Gate::Phase {
+            wire: 0,
+            angle: angles[1],
+        },
+        writer,
+    );
     for i in 1..n {
         block(i, &angles[numbers::power(i)..], writer);
     }
@@ -60,8 +66,16 @@ fn put_pair(i: u8, angle: u16, control: u8, writer: &mut Writer)
     ensures wrote { Wrote (bytes_of (Phase i angle ∷ Cnot control i ∷ [])) writer.old.at writer.old.out.now writer.new.at writer.new.out.now }
     ensures same_reference { writer.new.out.ghost_name ≡ writer.old.out.ghost_name }
 {
-    writer.put_gate(Gate::Phase { wire: i, angle });
-    writer.put_gate(Gate::Cnot { control, target: i });
+    put(Gate::Phase { wire: i, angle }, writer);
+    put(Gate::Cnot { control, target: i }, writer);
+}
+
+fn put(gate: Gate, writer: &mut Writer)
+    requires { writer.old.at + 4 ≤ length writer.old.out.now }
+    ensures wrote { Wrote (bytes_of (gate ∷ [])) writer.old.at writer.old.out.now writer.new.at writer.new.out.now }
+    ensures same_reference { writer.new.out.ghost_name ≡ writer.old.out.ghost_name }
+{
+    writer.put_gate(gate);
 }
 
 // d_k: the trailing zeros of k + 1, except that the last is i - 1.

@@ -1,5 +1,5 @@
 // A slice that is written from its front on, and the place behind what is written.
-ghost use Rattle.std.specs.Prelude.{◌≡◌, ◌+◌, ◌≤◌, [], ◌∷◌, length};
+ghost use Rattle.std.specs.Prelude.{◌≡◌, ◌+◌, ◌<◌, ◌≤◌, [], ◌∷◌, length};
 ghost use Rattle.circuit.specs.Gates.{bytes_of};
 ghost use Rattle.circuit.specs.Working.{Wrote};
 
@@ -13,21 +13,23 @@ pub struct Writer<'a> {
 }
 
 impl<'a> Writer<'a> {
-    // Bytes at the place, which moves behind them.
+    // Bytes at the place, which moves behind them; where they do not all fit, nothing is written and the place stays.
     pub fn put(&mut self, bytes: &[u8])
-        requires { self.old.at + length bytes.now ≤ length self.old.out.now }
-        ensures wrote { Wrote bytes.now self.old.at self.old.out.now self.new.at self.new.out.now }
+        ensures wrote { self.old.at + length bytes.now ≤ length self.old.out.now → Wrote bytes.now self.old.at self.old.out.now self.new.at self.new.out.now }
+        ensures stays { length self.old.out.now < self.old.at + length bytes.now → (self.new.at ≡ self.old.at) × (self.new.out.now ≡ self.old.out.now) }
         ensures same_reference { self.new.out.ghost_name ≡ self.old.out.ghost_name }
     {
-        let end = self.at + bytes.len();
-        self.out[self.at..end].copy_from_slice(bytes);
-        self.at = end;
+        if bytes.len() <= self.out.len() && self.at <= self.out.len() - bytes.len() {
+            let end = self.at + bytes.len();
+            self.out[self.at..end].copy_from_slice(bytes);
+            self.at = end;
+        }
     }
 
-    // A gate's four bytes.
+    // A gate's four bytes, likewise.
     pub fn put_gate(&mut self, gate: Gate)
-        requires { self.old.at + 4 ≤ length self.old.out.now }
-        ensures wrote { Wrote (bytes_of (gate ∷ [])) self.old.at self.old.out.now self.new.at self.new.out.now }
+        ensures wrote { self.old.at + 4 ≤ length self.old.out.now → Wrote (bytes_of (gate ∷ [])) self.old.at self.old.out.now self.new.at self.new.out.now }
+        ensures stays { length self.old.out.now < self.old.at + 4 → (self.new.at ≡ self.old.at) × (self.new.out.now ≡ self.old.out.now) }
         ensures same_reference { self.new.out.ghost_name ≡ self.old.out.ghost_name }
     {
         self.put(&gate_bytes(gate));

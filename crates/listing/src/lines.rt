@@ -5,7 +5,7 @@ ghost use Rattle.listing.specs.Fractions.{over, fraction_of};
 ghost use Rattle.listing.specs.Listing.{head_lines, wrap_line, cnot_line, phase_line, gate_line};
 ghost use Rattle.listing.specs.Working.{head_length, cnot_length, phase_length, inverter_length};
 
-use crate::text::{digits, put_last, put_numbered};
+use crate::text::{digits, put_last, put_numbered, put_text};
 use crate::words;
 use circuit::{Gate, Writer};
 
@@ -33,8 +33,8 @@ pub(crate) fn put_head(wires: u8, writer: &mut Writer)
     ensures wrote { Wrote (head_lines wires) writer.old.at writer.old.out.now writer.new.at writer.new.out.now }
     ensures same_reference { writer.new.out.ghost_name ≡ writer.old.out.ghost_name }
 {
-    writer.put(&words::VERSION);
-    writer.put(&words::INCLUDE);
+    put_text(&words::VERSION, writer);
+    put_text(&words::INCLUDE, writer);
     put_last(&words::REGISTER, wires as u16, writer);
 }
 

@@ -20,13 +20,22 @@ pub(crate) fn digits(n: u16) -> usize
     }
 }
 
+// Text at the writer's place.
+pub(crate) fn put_text(text: &[u8], writer: &mut Writer)
+    requires { writer.old.at + length text.now ≤ length writer.old.out.now }
+    ensures wrote { Wrote text.now writer.old.at writer.old.out.now writer.new.at writer.new.out.now }
+    ensures same_reference { writer.new.out.ghost_name ≡ writer.old.out.ghost_name }
+{
+    writer.put(text);
+}
+
 // A number's last digit.
 fn put_digit(n: u16, writer: &mut Writer)
     requires { writer.old.at + length (digit (n % 10)) ≤ length writer.old.out.now }
     ensures wrote { Wrote (digit (n % 10)) writer.old.at writer.old.out.now writer.new.at writer.new.out.now }
     ensures same_reference { writer.new.out.ghost_name ≡ writer.old.out.ghost_name }
 {
-    writer.put(&[48 + ((n % 10) as u8)]);
+    put_text(&[48 + ((n % 10) as u8)], writer);
 }
 
 // The same of a number but 0. Of 0 nothing: it would be a leading zero.
@@ -60,7 +69,7 @@ pub(crate) fn put_numbered(word: &[u8], n: u16, writer: &mut Writer)
     ensures wrote { Wrote (word.now ++ decimal n) writer.old.at writer.old.out.now writer.new.at writer.new.out.now }
     ensures same_reference { writer.new.out.ghost_name ≡ writer.old.out.ghost_name }
 {
-    writer.put(word);
+    put_text(word, writer);
     put_decimal(n, writer);
 }
 
@@ -71,5 +80,5 @@ pub(crate) fn put_last(word: &[u8], n: u16, writer: &mut Writer)
     ensures same_reference { writer.new.out.ghost_name ≡ writer.old.out.ghost_name }
 {
     put_numbered(word, n, writer);
-    writer.put(&CLOSING);
+    put_text(&CLOSING, writer);
 }

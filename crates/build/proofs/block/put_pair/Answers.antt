@@ -14,15 +14,15 @@ phase_done i angle control at out fits next after wrote =
     let cnot = Cnot control i ∷ [] in
     less_left (bytes_of phase) (bytes_of cnot) (all_left at out (bytes_append phase cnot) fits) wrote
 
-pub put_gate-requires : goal.put_gate-requires
-put_gate-requires c = omega (arith, c.requires, length-bytes (Phase c.args.i c.args.angle ∷ Cnot c.args.control c.args.i ∷ []))
+pub put-requires : goal.put-requires
+put-requires c = omega (arith, c.requires, length-bytes (Phase c.args.i c.args.angle ∷ Cnot c.args.control c.args.i ∷ []))
 
-pub put_gate-requires-2 : goal.put_gate-requires-2
-put_gate-requires-2 c =
+pub put-requires-2 : goal.put-requires-2
+put-requires-2 c =
     let a = c.args in
-    omega (arith, (phase_done a.i a.angle a.control a.writer.now.at a.writer.now.out.now c.requires _ _ c.put_gate.ensures.wrote).fits, length-bytes (Cnot a.control a.i ∷ []))
+    omega (arith, (phase_done a.i a.angle a.control a.writer.now.at a.writer.now.out.now c.requires _ _ c.put.ensures.wrote).fits, length-bytes (Cnot a.control a.i ∷ []))
 
 pub returns-clause-wrote : goal.returns-clause-wrote
 returns-clause-wrote c =
     let a = c.args in
-    all_written (phase_done a.i a.angle a.control a.writer.now.at a.writer.now.out.now c.requires _ _ c.put_gate.ensures.wrote) c.put_gate-2.ensures.wrote
+    all_written (phase_done a.i a.angle a.control a.writer.now.at a.writer.now.out.now c.requires _ _ c.put.ensures.wrote) c.put-2.ensures.wrote

@@ -5,13 +5,13 @@ use Rattle.build.proofs.block.variables.Goals as goal
 pub bounds-angles-1 : goal.bounds-angles-1
 bounds-angles-1 c = omega (arith, pow_mono {i = 1} {j = c.args.n} c.requires.n_nonzero, c.requires.angles_enough)
 
-pub put_gate-requires : goal.put_gate-requires
-put_gate-requires c = let a = c.args in
+pub put-requires : goal.put-requires
+put-requires c = let a = c.args in
     first_fits a.n a.angles.now a.writer.now.at a.writer.now.out.now c.requires.n_nonzero c.requires.room
 
 pub loop-i-init : goal.loop-i-init
 loop-i-init c = let a = c.args in
-    (first_done a.n a.angles.now a.writer.now.at a.writer.now.out.now c.requires.n_nonzero c.requires.room c.put_gate.ensures.wrote, c.put_gate.ensures.same_reference)
+    (first_done a.n a.angles.now a.writer.now.at a.writer.now.out.now c.requires.n_nonzero c.requires.room c.put.ensures.wrote, c.put.ensures.same_reference)
 
 pub slice_bounds-block-start : goal.slice_bounds-block-start
 slice_bounds-block-start c = let a = c.args in

@@ -8,4 +8,4 @@ use Rattle.listing.proofs.text.put_last.Goals as goal
 pub returns-clause-wrote : goal.returns-clause-wrote
 returns-clause-wrote c =
     let a = c.args in
-    all_written (less_left (a.word.now ++ decimal a.n) words.closing (all_left a.writer.now.at a.writer.now.out.now refl c.requires) c.put_numbered.ensures.wrote) c.put.ensures.wrote
+    all_written (less_left (a.word.now ++ decimal a.n) words.closing (all_left a.writer.now.at a.writer.now.out.now refl c.requires) c.put_numbered.ensures.wrote) c.put_text.ensures.wrote

@@ -6,4 +6,4 @@ use Rattle.listing.proofs.text.put_numbered.Goals as goal
 pub returns-clause-wrote : goal.returns-clause-wrote
 returns-clause-wrote c =
     let a = c.args in
-    all_written (less_left a.word.now (decimal a.n) (all_left a.writer.now.at a.writer.now.out.now refl c.requires) c.put.ensures.wrote) c.put_decimal.ensures.wrote
+    all_written (less_left a.word.now (decimal a.n) (all_left a.writer.now.at a.writer.now.out.now refl c.requires) c.put_text.ensures.wrote) c.put_decimal.ensures.wrote
