@@ -8,7 +8,7 @@ ghost use Rattle.circuit.specs.Working.{header_of};
 use crate::Gate;
 use crate::decoder::sixteen_bits;
 
-// Bytes at `at`; where they do not all fit, nothing is written.
+// Bytes at `at`; where they do not all fit, nothing is written. No Writer: what `put_gate` ensures holds for every place.
 fn put(bytes: &[u8], out: &mut [u8], at: usize)
     ensures { out.new ≡ put_at bytes.now at out.old }
 {
