@@ -6,8 +6,8 @@ use mathlib.Core.Path.{◌≡◌, refl, sym, ap, ap₂, subst, ◌∙◌}
 use mathlib.Core.Bool.{Bool, true, false, ◌&&◌}
 use mathlib.Core.List.{List, [], ◌∷◌, ◌++◌, append-nil, append_assoc}
 use lib.Dec.{ltb}
-use lib.ListN.{length, get_or, drop, set}
-use lib.Seq.{get_or-set_same, get_or-set_other}
+use lib.ListN.{length, get_or, take, drop, set}
+use lib.Seq.{get_or-set_same, get_or-set_other, get_or-take, length-take-le}
 use borrow.Author.Tests.{lt-ltb}
 use Rattle.numbers.proofs.Lists.{length-list, list_last}
 use Rattle.circuit.specs.declared.Gate.{Gate}
@@ -28,6 +28,14 @@ module _ (f row : List ℕ) where
   stack_set n x zero h = refl
   stack_set n x (suc m) h =
       ap (λ (y : ℕ). said_at f y ∷ stack f (set row n x) m) (get_or-set_other row n m x 0 (λ e. omega arith)) ∙ ap (said_at f (get_or row m 0) ∷◌) (stack_set n x m (omega arith))
+
+  -- the kept positions as a row of their own
+  stack_part : (n m : ℕ) → m ≤ n → stack f (take n row) m ≡ stack f row m
+  stack_part n zero h = refl
+  stack_part n (suc m) h = ap₂ (λ (x : ℕ) (k : List Gate). said_at f x ∷ k) (get_or-take n row m 0 (omega arith)) (stack_part n m (omega arith))
+
+  pub stack_front : (n : ℕ) → n ≤ length row → stack f (take n row) (length (take n row)) ≡ stack f row n
+  stack_front n h = ap (stack f (take n row)) (length-take-le n row h) ∙ stack_part n n (omega arith)
 
   -- the kept gates in order
   onto_stack : (n : ℕ) (gs : List Gate) → onto (stack f row n) gs ≡ gates_at f row n ++ gs

@@ -39,17 +39,16 @@ fn are_twins(one: Gate, other: Gate) -> bool
 }
 
 // Whether the gate at `i` goes with the last that is kept: one removal more is allowed, and they are twins.
-fn goes(file: &[u8], row: &[u16], kept: usize, i: usize, pairs: usize, most: usize) -> bool
-    requires { kept ≤ length row.now }
-    ensures { result ≡ (ltb pairs most && meets (stack file.now row.now kept) (said_at file.now i)) }
+fn goes(file: &[u8], kept: &[u16], i: usize, pairs: usize, most: usize) -> bool
+    ensures { result ≡ (ltb pairs most && meets (stack file.now kept.now (length kept.now)) (said_at file.now i)) }
 {
     if most <= pairs {
         return false;
     }
-    if kept == 0 {
+    if kept.len() == 0 {
         return false;
     }
-    let last = row[kept - 1] as usize;
+    let last = kept[kept.len() - 1] as usize;
     are_twins(circuit::good_gate(file, last), circuit::good_gate(file, i))
 }
 
@@ -62,7 +61,7 @@ pub(crate) fn pass(circuit: &Circuit, most: usize, row: &mut [u16]) -> Kept
     let mut pairs: usize = 0;
     // by position, since positions are what is kept
     for i in 0..circuit.gate_count() {
-        if goes(circuit.file, row, kept, i, pairs, most) {
+        if goes(circuit.file, &row[..kept], i, pairs, most) {
             kept -= 1;
             pairs += 1;
         } else {
