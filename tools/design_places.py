@@ -76,6 +76,13 @@ show("library functions by type in place of methods", places(r"\b(?:std::num::wr
 show("equality and conversion written out", ((p, l, n) for p, l, n, h, b in functions() if n in ("is_cnot", "are_twins", "sixteen_bits", "mark", "number", "same", "pattern", "narrow", "size_of", "wrapped", "magnitude")))
 print("5. facts repeated in contracts, parameters that travel together")
 show("requires about file_checks", places(r"requires.*file_checks"))
+bounds = collections.defaultdict(set)
+for path, line, name, head, body in functions():
+    for clause in re.findall(r"requires(?: \w+)? \{ (.*) \}", head):
+        for fact in re.split(r" × ", clause):
+            plain = re.sub(r"\b(?!length|most_\w+|nat_abs|now\b|old\b|new\b|bytes_of\b)[a-z]\w*\b", "x", fact.strip("()"))
+            bounds[plain].add((path, line, name))
+show("other facts that three requires or more have, each with another value's name", ((p, l, f"{n}: {fact}") for fact, at in sorted(bounds.items()) if len(at) > 2 and "file_checks" not in fact for p, l, n in sorted(at)))
 show("functions of a file and its gate count", ((p, l, n) for p, l, n, h, b in functions() if re.search(r"file: &\[u8\], gates: usize", h) or re.search(r"file: &\[u8\], wires: u8, gates: usize", h)))
 show("functions of a row and its ends", ((p, l, n) for p, l, n, h, b in functions() if re.search(r"first: &\[u16\],\s+firsts: &\[u16\]", h)))
 show("functions of a slice to write and a place in it", ((p, l, n) for p, l, n, h, b in functions() if re.search(r"out: &mut \[u8\], at: usize", h)))
