@@ -20,13 +20,15 @@ pub(crate) fn digits(n: u16) -> usize
     }
 }
 
-// Text at the writer's place.
+// Text at the writer's place, as `Writer::put` puts it where it fits: without that question a listing takes half the time.
 pub(crate) fn put_text(text: &[u8], writer: &mut Writer)
     requires { writer.old.at + length text.now ≤ length writer.old.out.now }
     ensures wrote { Wrote text.now writer.old.at writer.old.out.now writer.new.at writer.new.out.now }
     ensures same_reference { writer.new.out.ghost_name ≡ writer.old.out.ghost_name }
 {
-    writer.put(text);
+    let end = writer.at + text.len();
+    writer.out[writer.at..end].copy_from_slice(text);
+    writer.at = end;
 }
 
 // A number's last digit.
@@ -35,7 +37,8 @@ fn put_digit(n: u16, writer: &mut Writer)
     ensures wrote { Wrote (digit (n % 10)) writer.old.at writer.old.out.now writer.new.at writer.new.out.now }
     ensures same_reference { writer.new.out.ghost_name ≡ writer.old.out.ghost_name }
 {
-    put_text(&[48 + ((n % 10) as u8)], writer);
+    writer.out[writer.at] = 48 + ((n % 10) as u8);
+    writer.at += 1;
 }
 
 // The same of a number but 0. Of 0 nothing: it would be a leading zero.
