@@ -49,6 +49,10 @@ pub(crate) fn print_sums(rt: &impl Print, sums: &[i32]) -> io::Result<()>
 }
 
 fn pattern(sum: i32) -> u16 {
-    let nearest = sum.clamp(i32::from(i16::MIN), i32::from(i16::MAX));
-    u16::from_be_bytes((nearest as i16).to_be_bytes())
+    let size = numbers::magnitude(sum);
+    if sum < 0 {
+        (size.min(32768) as u16).wrapping_neg()
+    } else {
+        size.min(32767) as u16
+    }
 }
