@@ -45,7 +45,7 @@ fn add_gates(circuit: &Circuit, held: &mut [u16], totals: &mut [u16])
 }
 
 // The wrapped sum of each group of a circuit, into a row of zeros that is lent: one that is answered stands on the stack three times.
-pub(crate) fn fill_totals(circuit: &Circuit, totals: &mut [u16])
+pub(crate) fn totals_of(circuit: &Circuit, totals: &mut [u16])
     requires { totals.old ≡ replicate most_groups 0 }
     ensures { totals.new ≡ totals_of circuit.now.file.now }
 {

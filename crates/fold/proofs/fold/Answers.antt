@@ -14,7 +14,7 @@ room_of : (c : After-tally_of-tally) → Room c.in_ok-circuit.circuit.file.now (
 room_of c =
     let i = c.in_ok-circuit.circuit in
     let counts = c.count_gates-counted.ensures in
-    let t = c.fill_totals in
+    let t = c.totals_of in
     let n = c.tally_of-tally in
     room i.file.now i.bytes (fail_passed (file_checks 0 i.file.now) i.good) t.new.totals t.ensures _ n.result.kept n.result.score
     (ap₂ ◌+◌ (ap (λ (a : Counted). a.cnots) counts) (ap (λ (a : Counted). a.inverters) counts)) n.ensures.0 n.ensures.1

@@ -1,7 +1,7 @@
 use Rattle.circuit.specs.File.{file_checks}
 use Rattle.refusal.proofs.Passed.{fail_passed}
 use Rattle.fold.proofs.Summing.{totals_summed}
-use Rattle.fold.proofs.totals.fill_totals.Goals as goal
+use Rattle.fold.proofs.totals.totals_of.Goals as goal
 
 pub returns : goal.returns
 returns c =
