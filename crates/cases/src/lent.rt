@@ -9,14 +9,19 @@ pub(crate) const WORK: usize = 1100;
 
 pub(crate) const SUMS: usize = 600;
 
-// What stands at i before the operation.
+// What stands at i before the operation. It comes again after so many entries.
+const PERIOD: usize = 251;
+
 fn start(i: usize) -> u8 {
-    ((i % 251 * 37 + 11) % 251) as u8
+    ((i % PERIOD * 37 + 11) % PERIOD) as u8
 }
 
 pub(crate) fn fill<T: From<u8> + Copy>(lent: &mut [T]) {
-    for (i, entry) in lent.iter_mut().enumerate() {
+    for (i, entry) in lent.iter_mut().enumerate().take(PERIOD) {
         *entry = T::from(start(i));
+    }
+    for i in PERIOD..lent.len() {
+        lent[i] = lent[i - PERIOD];
     }
 }
 
@@ -49,6 +54,10 @@ pub(crate) fn print_sums(rt: &impl Print, sums: &[i32]) -> io::Result<()>
 }
 
 fn pattern(sum: i32) -> u16 {
-    let nearest = sum.clamp(i32::from(i16::MIN), i32::from(i16::MAX));
-    u16::from_be_bytes((nearest as i16).to_be_bytes())
+    let size = numbers::magnitude(sum);
+    if sum < 0 {
+        (size.min(32768) as u16).wrapping_neg()
+    } else {
+        size.min(32767) as u16
+    }
 }

@@ -1,6 +1,6 @@
 // The words of a line.
 use crate::request::{OPERATIONS, Tally};
-use refusal::Refusal;
+use refusal::{Numbered, Refusal};
 use std::io;
 
 pub(crate) fn number(rt: &impl Print, n: usize) -> io::Result<()> {
@@ -32,12 +32,10 @@ pub(crate) fn answers(rt: &impl Print, value: usize) -> io::Result<()> {
 }
 
 pub(crate) fn refused(rt: &impl Print, r: Refusal) -> io::Result<()> {
+    let told = Numbered::from(r);
     print!(rt;
         ": refused {} side {} position {} reason {}",
-        r.cause.number(),
-        r.side,
-        r.position,
-        r.reason.map_or(0, |reason| reason.number())
+        told.number, told.side, told.position, told.reason
     )
 }
 

@@ -38,6 +38,15 @@ pub next_said : (bs four left : List ℕ) (g : Gate) → four ≡ take 4 bs → 
     → g ≡ gate_said (get_or four 0 0) (get_or four 1 0) (get_or four 2 0) (get_or four 3 0) → said_gates bs ≡ g ∷ said_gates left
 next_said bs four left g p q h e = first_said bs h ∙ rw (e, p, q) refl
 
+-- there are as many as there are fours
+pub said_long : (bs : List ℕ) → length (said_gates bs) ≡ length bs / 4
+unfolding said_gates
+said_long [] = refl
+said_long (a ∷ []) = refl
+said_long (a ∷ b ∷ []) = refl
+said_long (a ∷ b ∷ c ∷ []) = refl
+said_long (k ∷ a ∷ b ∷ c ∷ bs) = omega (arith, said_long bs)
+
 -- the bytes of a gate list say it
 pub list_said : (gs : List Gate) → said_gates (bytes_of gs) ≡ gs
 unfolding said_gates bytes_of

@@ -1,8 +1,9 @@
 // The gates of a file, by position.
-ghost use Rattle.std.specs.Prelude.{◌≡◌, true, false, ◌+◌, ◌*◌, ◌≤◌, ◌<◌, length};
+ghost use Rattle.std.specs.Prelude.{◌≡◌, true, false, ◌+◌, ◌*◌, ◌≤◌, ◌<◌, length, Some, IfSome};
 ghost use Rattle.circuit.specs.File.{gate_at};
 ghost use Rattle.circuit.specs.Working.{four_at, said_at, said_gates};
-ghost use Rattle.std.specs.Iterator.{YieldsFirst, item_count};
+ghost use Rattle.std.specs.Iterator.{YieldsFirst, item_count, at_most, UpTo};
+ghost use Rattle.std.specs.Iterator.SizeHint.{IsWithinCount};
 
 use crate::decoder::{decode, gate_of, sixteen_bits};
 use crate::{Gate, Placed};
@@ -67,5 +68,15 @@ impl<'a> Iterator for Gates<'a> {
         let (four, left) = self.left.split_first_chunk::<4>()?;
         self.left = left;
         Some(gate_of(four[0], four[1], four[2], four[3]))
+    }
+
+    #[tactic(auto, using(crate::proofs::Saying::said_long))]
+    fn size_hint(&self) -> (usize, Option<usize>)
+        ensures lower { IsWithinCount result.0 (at_most (length (said_gates self.now.left.now))) }
+        ensures upper { IfSome result.1 (UpTo (at_most (length (said_gates self.now.left.now)))) }
+        ensures value { result ≡ (length (said_gates self.now.left.now), Some (length (said_gates self.now.left.now))) }
+    {
+        let gates = self.left.len() / 4;
+        (gates, Some(gates))
     }
 }

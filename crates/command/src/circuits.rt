@@ -15,6 +15,7 @@ pub(crate) fn call(
     errors: &impl Print,
 ) -> io::Result<()> {
     let mut room = [0; files::FILE_ROOM];
+    prove!(room.len() == 8 + 4 * 2048 + 1);
     let Some(file) = files::load(rt, call.word(0), &mut room, errors)? else {
         return Ok(());
     };
@@ -118,6 +119,7 @@ fn compare(
         return Ok(());
     };
     let mut work = [0; WORK_ROOM];
+    prove!(work.len() == running::MASKS);
     let found = verdict::compare(file, other, &mut work);
     compared(rt, found, differences, &work)
 }
@@ -134,6 +136,7 @@ fn list(
     errors: &impl Print,
 ) -> io::Result<()> {
     let mut text = [0; TEXT_ROOM];
+    prove!(text.len() == 65600);
     match listing::list(file, wrapped, &mut text) {
         Err(r) => answers::refused(rt, r),
         Ok(length) => {

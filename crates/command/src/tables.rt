@@ -10,6 +10,7 @@ pub(crate) fn call(
     errors: &impl Print,
 ) -> io::Result<()> {
     let mut room = [0; files::TABLE_ROOM];
+    prove!(room.len() == 32 + 1);
     let Some((n, table)) = files::table(rt, call.word(0), call.word(1), &mut room, errors)? else {
         return Ok(());
     };

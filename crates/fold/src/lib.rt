@@ -24,7 +24,8 @@ pub fn fold(file: &[u8], out: &mut [u8]) -> Result<Folded, Refusal>
 {
     let circuit = Circuit::read(file, 0)?;
     let counted = running::count_gates(&circuit);
-    let mut totals = totals::totals_of(&circuit);
+    let mut totals = [0; totals::GROUPS];
+    totals::totals_of(&circuit, &mut totals);
     let tally = totals::tally_of(&totals);
     let kept = counted.cnots + counted.inverters + (tally.kept as usize);
     let length = 8 + 4 * kept;

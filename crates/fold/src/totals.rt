@@ -1,5 +1,5 @@
 // The totals of the groups, one for each mask and flip: how many stay, and what they score.
-ghost use Rattle.std.specs.Prelude.{◌≡◌, ◌≤◌, length};
+ghost use Rattle.std.specs.Prelude.{◌≡◌, ◌≤◌, length, replicate};
 ghost use Rattle.circuit.specs.File.{gates_of};
 ghost use Rattle.circuit.specs.Working.{walked};
 ghost use Rattle.running.specs.Working.{most_groups, totals_of, At, numbers_after, met, add_met, sum_step};
@@ -8,7 +8,7 @@ ghost use Rattle.fold.specs.Working.{staying, kept_in, score_in};
 use circuit::{Circuit, Gate};
 
 // As many groups as ten wires can have: 2^10 masks, each with a flip or without (02 §12).
-const GROUPS: usize = 2048;
+pub(crate) const GROUPS: usize = 2048;
 
 // An angle added, wrapping, to a group's total.
 fn add_angle(totals: &mut [u16], group: u16, angle: u16)
@@ -44,14 +44,13 @@ fn add_gates(circuit: &Circuit, held: &mut [u16], totals: &mut [u16])
     }
 }
 
-// The wrapped sum of each group of a circuit.
-pub(crate) fn totals_of(circuit: &Circuit) -> [u16; GROUPS]
-    ensures { result ≡ totals_of circuit.now.file.now }
+// The wrapped sum of each group of a circuit, into a row of zeros that is lent: one that is answered stands on the stack three times.
+pub(crate) fn totals_of(circuit: &Circuit, totals: &mut [u16])
+    requires { totals.old ≡ replicate most_groups 0 }
+    ensures { totals.new ≡ totals_of circuit.now.file.now }
 {
-    let mut totals = [0u16; GROUPS];
     let mut held = running::own_held();
-    add_gates(circuit, &mut held, &mut totals);
-    totals
+    add_gates(circuit, &mut held, totals);
 }
 
 // How many groups stay, and the score of what stays.

@@ -86,6 +86,6 @@ pub fn refused_line(number: u8, out: &mut [u8]) -> Result<usize, Refusal>
     }
     let mut writer = Writer { out, at: 0 };
     text::put_numbered(&words::REFUSED, number, &mut writer);
-    text::put_text(&words::NEWLINE, &mut writer);
+    writer.put(&words::NEWLINE);
     Ok(writer.at)
 }

@@ -4,9 +4,13 @@
 
 use std::io;
 
-// The largest table has 32 bytes, so that 34 bytes decide. 65,536 bytes hold every printout, so that it is never refused.
+// The byte n, the 32 bytes of the largest table, and one more: 34 bytes decide.
+const INPUT_ROOM: usize = 34;
+
+// 65,536 bytes hold every printout, so that it is never refused.
 fn main(rt: HostRuntime) -> io::Result<()> {
-    let mut room = [0u8; 34];
+    let mut room = [0; INPUT_ROOM];
+    prove!(room.len() == 1 + 32 + 1);
     let n = input::fill(&mut rt.reader(), &mut room)?;
     let mut text = [0u8; 65536];
     match oracle_listing::printout(&room[..n], &mut text) {

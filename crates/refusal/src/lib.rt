@@ -1,8 +1,8 @@
 // Document 01, "Numbered refusals": the causes by name, and what a refusal returns.
 #![tactic(auto)]
 
-ghost use Rattle.std.specs.Prelude.{◌≡◌};
-ghost use Rattle.refusal.specs.Names.{refusal, refusal_at, number_of, reason_number};
+ghost use Rattle.std.specs.Prelude.{◌≡◌, Some};
+ghost use Rattle.refusal.specs.Names.{refusal, refusal_at, number_of, reason_number, cause_name, reason_name, numbered, numbered_by};
 
 use std::fmt;
 
@@ -36,6 +36,8 @@ impl Cause {
 
 // By its name in the table.
 impl fmt::Display for Cause {
+    ghost output = { λ cause. Some (cause_name cause) };
+
     fn fmt<W: fmt::Write>(&self, f: &mut fmt::Formatter<W>) -> fmt::Result {
         f.write_str(match self {
             Cause::Vars => "VARS",
@@ -85,6 +87,8 @@ pub struct Refusal {
 }
 
 impl fmt::Display for Reason {
+    ghost output = { λ reason. Some (reason_name reason) };
+
     fn fmt<W: fmt::Write>(&self, f: &mut fmt::Formatter<W>) -> fmt::Result {
         f.write_str(match self {
             Reason::Kind => "kind",
@@ -115,5 +119,39 @@ impl From<Cause> for Refusal {
 
     fn from(cause: Cause) -> Refusal {
         Refusal::of_side(cause, 0)
+    }
+}
+
+// A refusal in 01's numbers, as it is told at the edges.
+#[derive(Clone, Copy, PartialEq, Eq)]
+pub struct Numbered {
+    pub number: u8,
+    pub side: u8,
+    pub position: usize,
+    pub reason: u8,
+}
+
+impl From<Refusal> for Numbered {
+    ghost from_gives = { λ refused result. result ≡ numbered refused };
+
+    fn from(refused: Refusal) -> Numbered {
+        Numbered {
+            number: refused.cause.number(),
+            side: refused.side,
+            position: refused.position,
+            reason: refused.reason.map_or(0, Reason::number),
+        }
+    }
+}
+
+// The same of a call's first or only input, with no gate to name, by any number: one that no cause has, too.
+pub fn by(number: u8) -> Numbered
+    ensures { result ≡ numbered_by number }
+{
+    Numbered {
+        number,
+        side: 0,
+        position: 0,
+        reason: 0,
     }
 }

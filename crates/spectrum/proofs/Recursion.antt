@@ -1,10 +1,10 @@
 -- What a call on a row of 2^n entries has after its calls on the two halves.
-use Prim.Native.Nat.{ℕ, zero, suc, ◌/◌, ◌^◌, ◌<◌, ◌≤◌}
+use Prim.Native.Nat.{ℕ, zero, suc, ◌-◌, ◌/◌, ◌^◌, ◌<◌, ◌≤◌}
 use native.Mathlib.Omega.{arith}
-use mathlib.Core.Path.{◌≡◌, sym, ap, ap₂, subst, subst₂, ◌∙◌}
+use mathlib.Core.Path.{◌≡◌, refl, sym, ap, ap₂, subst, subst₂, ◌∙◌}
 use mathlib.Core.List.{List, ◌++◌}
-use lib.ListN.{length, take, drop, length-drop}
-use lib.Seq.{length-take-le}
+use lib.ListN.{length, take, drop, length-append, length-drop}
+use lib.Seq.{length-take-le, take_all, drop_at}
 use lib.Pow.{pow_pos}
 use lib.IntN.{ℤ}
 use Rattle.spectrum.specs.Working.{transformed, sums_and_differences, Tame, Paired}
@@ -26,6 +26,19 @@ module _ {A : Type 0} (v front back : List A) (half : ℕ) (d : half ≡ length 
 
   pub second_falls : length back < length v
   second_falls = omega (arith, ap length g ∙ length-drop half v)
+
+-- also where the second half is cut out of the row with another first half in it, as when the row is lent for each call in turn
+module _ {A : Type 0} (v : List A) (half : ℕ) (d : half ≡ length v / 2) (p : 0 < half) (a : List A) (la : length a ≡ length (take half v)) where
+  lent_long : length a ≡ half
+  lent_long = la ∙ length-take-le half v (omega arith)
+
+  second_stays : take (length (a ++ drop half v) - half) (drop half (a ++ drop half v)) ≡ drop half v
+  second_stays =
+      ap (take (length (a ++ drop half v) - half)) (drop_at a (drop half v) half lent_long)
+      ∙ take_all (length (a ++ drop half v) - half) (drop half v) (omega (arith, lent_long, length-append a (drop half v)))
+
+  pub second_falls_lent : length (take (length (a ++ drop half v) - half) (drop half (a ++ drop half v))) < length v
+  second_falls_lent = second_falls v (take half v) (take (length (a ++ drop half v) - half) (drop half (a ++ drop half v))) half d p refl second_stays
 
 module _ (v front back : List ℤ) (half : ℕ) (d : half ≡ length v / 2) (p : 0 < half) (f : front ≡ take half v) (g : back ≡ drop half v) where
   -- both may be transformed

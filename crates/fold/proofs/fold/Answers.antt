@@ -14,9 +14,9 @@ room_of : (c : After-tally_of-tally) → Room c.in_ok-circuit.circuit.file.now (
 room_of c =
     let i = c.in_ok-circuit.circuit in
     let counts = c.count_gates-counted.ensures in
-    let t = c.totals_of-totals in
+    let t = c.totals_of in
     let n = c.tally_of-tally in
-    room i.file.now i.bytes (fail_passed (file_checks 0 i.file.now) i.good) t.result t.ensures _ n.result.kept n.result.score
+    room i.file.now i.bytes (fail_passed (file_checks 0 i.file.now) i.good) t.new.totals t.ensures _ n.result.kept n.result.score
     (ap₂ ◌+◌ (ap (λ (a : Counted). a.cnots) counts) (ap (λ (a : Counted). a.inverters) counts)) n.ensures.0 n.ensures.1
 
 pub returns-in_err-circuit : goal.returns-in_err-circuit

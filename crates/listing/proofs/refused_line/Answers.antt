@@ -26,5 +26,5 @@ returns c =
     let a = c.args in
     let h : length (refused_line a.number) ≤ length a.out.now = omega (arith, refused_long a.number, c.digits.ensures.0, c.if-out-digits.false) in
     let newline_left = less_left (numbered words.refused a.number) words.newline (refused_left a.number a.out.now h) c.put_numbered.ensures.wrote in
-    subst (λ (o : List ℕ). Writes (refused_line a.number) a.out.now (Ok c.put_text.new.writer.at) o) (search rules)
-    (answered [] (refused_line a.number) a.out.now (reaches [] passed refl) h c.put_text.new.writer.at c.put_text.new.writer.out.now (all_written newline_left c.put_text.ensures.wrote))
+    subst (λ (o : List ℕ). Writes (refused_line a.number) a.out.now (Ok c.put.new.self.at) o) (search rules)
+    (answered [] (refused_line a.number) a.out.now (reaches [] passed refl) h c.put.new.self.at c.put.new.self.out.now (all_written newline_left (c.put.ensures.wrote newline_left.fits)))

@@ -6,4 +6,4 @@ use Rattle.fold.proofs.totals.totals_of.Goals as goal
 pub returns : goal.returns
 returns c =
     let i = c.args.circuit.now in
-    totals_summed i.file.now c.own_held-held.result _ _ i.bytes (fail_passed (file_checks 0 i.file.now) i.good) c.own_held-held.ensures c.add_gates.ensures
+    totals_summed i.file.now c.own_held-held.result _ _ i.bytes (fail_passed (file_checks 0 i.file.now) i.good) c.own_held-held.ensures (rw c.requires at c.add_gates.ensures)
